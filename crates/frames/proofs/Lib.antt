@@ -1,0 +1,3 @@
+pub mod HexDigits
+pub mod LineForm
+pub mod Spelling

@@ -1,0 +1,4 @@
+pub mod Check
+pub mod Hex
+pub mod Line
+pub mod Numbers
