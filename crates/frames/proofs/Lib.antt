@@ -1,3 +1,4 @@
+pub mod FrameKinds
 pub mod HexDigits
 pub mod LineForm
 pub mod Spelling

@@ -1,4 +1,5 @@
 pub mod Check
+pub mod Frame
 pub mod Hex
 pub mod Line
 pub mod Numbers

@@ -5,3 +5,5 @@ pub mod decode;
 pub mod faults;
 pub mod frame_bytes;
 pub mod hex;
+pub mod parse;
+pub mod request;
