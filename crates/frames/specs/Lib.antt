@@ -3,3 +3,4 @@ pub mod Frame
 pub mod Hex
 pub mod Line
 pub mod Numbers
+pub mod Reading

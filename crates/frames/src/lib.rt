@@ -6,4 +6,5 @@ pub mod faults;
 pub mod frame_bytes;
 pub mod hex;
 pub mod parse;
+pub mod read;
 pub mod request;
