@@ -2,7 +2,9 @@ pub mod Fields
 pub mod FrameKinds
 pub mod HexBytes
 pub mod HexDigits
+pub mod HexWrites
 pub mod LineForm
 pub mod OnlyLine
 pub mod ReadBack
 pub mod Spelling
+pub mod WriteBack

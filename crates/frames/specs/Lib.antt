@@ -4,3 +4,4 @@ pub mod Hex
 pub mod Line
 pub mod Numbers
 pub mod Reading
+pub mod Writing

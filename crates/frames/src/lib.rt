@@ -8,3 +8,4 @@ pub mod hex;
 pub mod parse;
 pub mod read;
 pub mod request;
+pub mod write;
