@@ -4,6 +4,8 @@ pub mod HexBytes
 pub mod HexDigits
 pub mod HexWrites
 pub mod LineForm
+pub mod LineSplits
+pub mod LineSteps
 pub mod OnlyLine
 pub mod ReadBack
 pub mod Spelling

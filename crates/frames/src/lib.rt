@@ -5,6 +5,8 @@ pub mod decode;
 pub mod faults;
 pub mod frame_bytes;
 pub mod hex;
+pub mod line;
+pub mod lines;
 pub mod parse;
 pub mod read;
 pub mod request;
