@@ -1,10 +1,10 @@
 -- A request whose payload is written as a line: that line stands in the buffer, and reads as the request.
 use mathlib.Core.List.{List, [], _∷_, _++_}
 use mathlib.Core.Path.{_≡_, refl, sym, ap, subst, _∙_}
-use Prim.Native.Nat.{ℕ, _/_, _%_, _<_}
+use Prim.Native.Nat.{ℕ, _*_, _/_, _%_, _<_}
 use native.Mathlib.Omega.{arith}
 use lib.ListN.{length, take, drop}
-use Rattle.std.proofs.shelf.Lists.{take-at}
+use Rattle.std.proofs.shelf.Lists.{take-at, drop-all}
 use Rattle.std.specs.Vec.{made}
 use Rattle.std.specs.declared.result.Result.{Result}
 use Rattle.std.specs.declared.result.Result.the-variants.{Ok, Err}
@@ -42,17 +42,28 @@ four-bytes x r p =
     let e : big-endian 4 x ≡ (x / 16777216 % 256) ∷ (x / 65536 % 256) ∷ (x / 256 % 256) ∷ (x % 256) ∷ [] = cc in
     e ∙ ap (λ (t : List ℕ). listed t 0 4) (sym p)
 
-pub eight-bytes : (x : ℕ) (r : List ℕ) →
-    r ≡ (x / 72057594037927936 % 256) ∷ (x / 281474976710656 % 256) ∷ (x / 1099511627776 % 256) ∷ (x / 4294967296 % 256)
-        ∷ (x / 16777216 % 256) ∷ (x / 65536 % 256) ∷ (x / 256 % 256) ∷ (x % 256) ∷ [] →
-    big-endian 8 x ≡ listed r 0 8
-eight-bytes x r p =
+-- eight big-endian bytes by their quotients
+abbrev eight : ℕ → List ℕ
+eight x =
+    (x / 72057594037927936 % 256) ∷ (x / 281474976710656 % 256) ∷ (x / 1099511627776 % 256) ∷ (x / 4294967296 % 256)
+    ∷ (x / 16777216 % 256) ∷ (x / 65536 % 256) ∷ (x / 256 % 256) ∷ (x % 256) ∷ []
+
+big-endian-eight : (x : ℕ) → big-endian 8 x ≡ eight x
+big-endian-eight x =
     let a : x / 256 / 256 / 256 / 256 ≡ x / 4294967296 = omega arith in
     let b : x / 4294967296 / 256 / 256 / 256 ≡ x / 72057594037927936 = omega arith in
     let c : x / 4294967296 / 256 / 256 ≡ x / 281474976710656 = omega arith in
     let d : x / 4294967296 / 256 ≡ x / 1099511627776 = omega arith in
     let f : x / 256 / 256 / 256 ≡ x / 16777216 = omega arith in
     let g : x / 256 / 256 ≡ x / 65536 = omega arith in
-    let e : big-endian 8 x ≡ (x / 72057594037927936 % 256) ∷ (x / 281474976710656 % 256) ∷ (x / 1099511627776 % 256) ∷ (x / 4294967296 % 256)
-            ∷ (x / 16777216 % 256) ∷ (x / 65536 % 256) ∷ (x / 256 % 256) ∷ (x % 256) ∷ [] = cc in
-    e ∙ ap (λ (t : List ℕ). listed t 0 8) (sym p)
+    cc
+
+pub eight-bytes : (x : ℕ) (r : List ℕ) → r ≡ eight x → big-endian 8 x ≡ listed r 0 8
+eight-bytes x r p = big-endian-eight x ∙ ap (λ (t : List ℕ). listed t 0 8) (sym p)
+
+-- eight bytes fill sixteen characters
+pub hex-eight : (x : ℕ) (r old : List ℕ) → r ≡ eight x → length old ≡ 16 → hex r ++ drop (2 * length r) old ≡ hex (big-endian 8 x)
+hex-eight x r old p n =
+    ap (λ (t : List ℕ). hex t ++ drop (2 * length t) old) p
+    ∙ ap (λ (t : List ℕ). hex (eight x) ++ t) (drop-all 16 old (omega arith))
+    ∙ ap hex (sym (big-endian-eight x))

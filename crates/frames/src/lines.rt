@@ -2,8 +2,8 @@
 
 ghost use mathlib.Core.List.{List, [], _∷_, _++_};
 ghost use mathlib.Core.Path.{_≡_};
-ghost use lib.ListN.{take};
-ghost use Prim.Native.Nat.{ℕ};
+ghost use lib.ListN.{length, take};
+ghost use Prim.Native.Nat.{ℕ, _<_, _≤_};
 ghost use Rattle.frames.specs.Lines.{kept, keeping, cut-lines, Took, handed, ended, Split};
 use crate::line::Line;
 
@@ -48,6 +48,8 @@ impl LineSplitter {
     // Takes bytes of a piece up to its first line feed, or all of them.
     pub fn feed(&mut self, piece: &[u8]) -> Taken
         ensures took { λ r. ⌜ Took (kept (now (self .entry) .line)) (now (piece .entry)) (r .used) (r .line) (kept (now (self .exit) .line)) ⌝ }
+        ensures within { λ r. ⌜ r .used ≤ length (now (piece .entry)) ⌝ }
+        ensures onward { λ r. ⌜ (0 < length (now (piece .entry)) → 0 < r .used) ⌝ }
         ensures splits { λ r. ⌜ ((past : List ℕ) (done : List (List ℕ)) → Split past done (kept (now (self .entry) .line)) → Split (past ++ take (r .used) (now (piece .entry))) (done ++ handed (r .line)) (kept (now (self .exit) .line))) ⌝ }
     {
         for i in 0..piece.len() {

@@ -1,11 +1,11 @@
 // A request, or any bytes, written as a line of hexadecimal at the start of a lent buffer.
-ghost use mathlib.Core.List.{_++_};
+ghost use mathlib.Core.List.{[], _∷_, _++_};
 ghost use mathlib.Core.Path.{_≡_};
 ghost use lib.ListN.{length, drop};
 ghost use Prim.Native.Nat.{_+_, _*_, _<_, _≤_};
 ghost use Rattle.frames.specs.Hex.{hex};
 ghost use Rattle.frames.specs.declared.request.Request.the-variants.{Open, Arm, Cancel, Advance, Close, ArmByPurpose};
-ghost use Rattle.frames.specs.Reading.{with-check};
+ghost use Rattle.frames.specs.Reading.{big-endian, with-check};
 ghost use Rattle.frames.specs.Writing.{Wrote, Written, hexed};
 use crate::check::check_byte;
 use crate::faults::WriteFault;
@@ -42,6 +42,24 @@ pub fn write_frame(payload: &[u8], buffer: &mut [u8]) -> Result<usize, WriteFaul
     put_all(buffer, payload);
     put(buffer, 2 * last, check_byte(payload));
     Ok(2 * last + 2)
+}
+
+// The two characters of a byte.
+pub fn hex_byte(byte: u8) -> [u8; 2]
+    ensures { λ r. ⌜ r ≡ hex (byte ∷ []) ⌝ }
+{
+    let mut text = [0; 2];
+    put_all(&mut text, &[byte]);
+    text
+}
+
+// The sixteen characters of a time field.
+pub fn hex_time(time: u64) -> [u8; 16]
+    ensures { λ r. ⌜ r ≡ hex (big-endian 8 time) ⌝ }
+{
+    let mut text = [0; 16];
+    put_all(&mut text, &time.to_be_bytes());
+    text
 }
 
 fn write_open(time_kind: u8, device: u8, start: u64, buffer: &mut [u8]) -> Result<usize, WriteFault>

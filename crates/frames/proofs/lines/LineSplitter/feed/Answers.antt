@@ -24,7 +24,7 @@ returns-then-byte-eq10 c =
     let used = ap (λ (m : ℕ). m + 1) (sym (ap length (f .1) ∙ n)) in
     let line = c .loop-i .inv .1 ∙ ap (λ (t : List ℕ). keeping (kept (c .args .self .now .line) ++ t)) (sym (f .1)) in
     let t : Took (kept (c .args .self .now .line)) piece (c .loop-i .i + 1) (Some (c .loop-i .self .line)) (kept (c .empty-line-self .result)) = (f .0, used, line, c .empty-line-self .ensures) in
-    record { took = t; splits = λ past done s. split-took past done _ piece _ (Some (c .loop-i .self .line)) _ t s }
+    record { took = t; within = omega arith; onward = λ some. omega arith; splits = λ past done s. split-took past done _ piece _ (Some (c .loop-i .self .line)) _ t s }
 
 pub loop-i-again : need.loop-i-again
 loop-i-again c =
@@ -44,4 +44,4 @@ returns c =
     let piece : List ℕ = c .args .piece .now in
     let all : take (c .loop-i .i) piece ≡ piece = take-all (c .loop-i .i) piece (omega arith) in
     let t : Took (kept (c .args .self .now .line)) piece (length piece) None (kept (c .loop-i .self .line)) = (ap feeds (sym all) ∙ c .loop-i .inv .0, refl, c .loop-i .inv .1 ∙ ap (λ (x : List ℕ). keeping (kept (c .args .self .now .line) ++ x)) all) in
-    record { took = t; splits = λ past done s. split-took past done _ piece _ None _ t s }
+    record { took = t; within = omega arith; onward = λ some. omega arith; splits = λ past done s. split-took past done _ piece _ None _ t s }
