@@ -1,2 +1,12 @@
+pub mod Calls
+pub mod Claims
+pub mod Events
 pub mod Faults
-pub mod Windows
+pub mod Greedy
+pub mod Histories
+pub mod Listed
+pub mod Lists
+pub mod Order
+pub mod Rearranging
+pub mod Timers
+pub mod WakeUps
