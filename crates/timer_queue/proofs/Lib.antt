@@ -1,0 +1,6 @@
+pub mod Elements
+pub mod Least
+pub mod Orders
+pub mod Rearranged
+pub mod Sorting
+pub mod Stabbing
