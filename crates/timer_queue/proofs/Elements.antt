@@ -32,6 +32,14 @@ module _ {X : Type 0} where
   any-so C f (x ∷ xs) (inl p) = f x p
   any-so C f (x ∷ xs) (inr p) = any-so C f xs p
 
+  pub any-find : (P : X → Type 0) (xs : List X) → Any P xs → (x : X) × In xs x × P x
+  any-find P [] i = elim i [ ]
+  any-find P (x ∷ xs) (inl p) = (x, inl refl, p)
+  any-find P (x ∷ xs) (inr i) = let r = any-find P xs i in (r .0, inr (r .1), r .2)
+
+  pub any-at : (P : X → Type 0) (x : X) (xs : List X) → In xs x → P x → Any P xs
+  any-at P x xs i p = any-weaker (λ y e. subst P (sym e) p) xs i
+
   pub all-in : (P : X → Type 0) (x : X) (xs : List X) → All P xs → In xs x → P x
   all-in P x [] a i = elim i [ ]
   all-in P x (y ∷ xs) a (inl e) = subst P e (a .0)
@@ -62,12 +70,30 @@ module _ {X : Type 0} where
   pairwise-append R [] ys p q r = q
   pairwise-append R (x ∷ xs) ys p q r = (all-append (R x) xs ys (p .0) (r .0), pairwise-append R xs ys (p .1) q (r .1))
 
+module _ {X Y : Type 0} (f : X → Y) (P : Y → Type 0) where
+  pub any-map : (xs : List X) → Any (λ x. P (f x)) xs → Any P (map f xs)
+  any-map [] i = i
+  any-map (x ∷ xs) (inl p) = inl p
+  any-map (x ∷ xs) (inr i) = inr (any-map xs i)
+
+  pub map-any : (xs : List X) → Any P (map f xs) → Any (λ x. P (f x)) xs
+  map-any [] i = i
+  map-any (x ∷ xs) (inl p) = inl p
+  map-any (x ∷ xs) (inr i) = inr (map-any xs i)
+
+  pub map-all : (xs : List X) → All P (map f xs) → All (λ x. P (f x)) xs
+  map-all [] a = tt
+  map-all (x ∷ xs) a = (a .0, map-all xs (a .1))
+
 module _ {X : Type 0} (p : X → Bool) where
+  pub kept-any : (P : X → Type 0) (xs : List X) → Any P (kept-by p xs) → Any P xs
+  kept-any P [] = λ i. i
+  kept-any P (y ∷ xs) =
+      cond-both (p y) (y ∷ kept-by p xs) (kept-by p xs) (λ l. Any P l → Any P (y ∷ xs))
+      (λ _. ⊎-elim {C = Any P (y ∷ xs)} (λ e. inl e) (λ i. inr (kept-any P xs i))) (λ _ i. inr (kept-any P xs i))
+
   pub in-kept : (x : X) (xs : List X) → In (kept-by p xs) x → In xs x
-  in-kept x [] = λ i. i
-  in-kept x (y ∷ xs) =
-      cond-both (p y) (y ∷ kept-by p xs) (kept-by p xs) (λ l. In l x → In (y ∷ xs) x)
-      (λ _. ⊎-elim {C = In (y ∷ xs) x} (λ e. inl e) (λ i. inr (in-kept x xs i))) (λ _ i. inr (in-kept x xs i))
+  in-kept x xs = kept-any (λ y. y ≡ x) xs
 
   -- the one that is found passes
   pub any-kept : (P : X → Type 0) → ((x : X) → P x → p x ≡ true) → (xs : List X) → Any P xs → Any P (kept-by p xs)

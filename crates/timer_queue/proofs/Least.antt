@@ -9,7 +9,7 @@ use Rattle.std.specs.shelf.Lists.{All}
 use Rattle.std.proofs.shelf.Elements.{all-weaker}
 use Rattle.std.proofs.shelf.Tests.{cond-both, cases-bool}
 use Rattle.timer_queue.specs.Order.{StrictOrder}
-use Rattle.timer_queue.specs.Lists.{least, lesser}
+use Rattle.timer_queue.specs.Lists.{Any, least, lesser}
 use Rattle.timer_queue.proofs.Elements.{In, all-in}
 use Rattle.timer_queue.proofs.Orders.{never-both, le-le}
 
@@ -43,6 +43,10 @@ module _ {X : Type 0} (lt : X → X → Bool) (o : StrictOrder lt) where
 
   pub least-none : (xs : List X) → least lt xs ≡ None → xs ≡ []
   least-none xs e = subst (Found xs) e (found xs)
+
+  pub least-some : (P : X → Type 0) (xs : List X) → Any P xs → (m : X) × (least lt xs ≡ Some m)
+  least-some P [] i = elim i [ ]
+  least-some P (x ∷ xs) i = (lesser lt x (least lt xs), refl)
 
   pub lowest-one : (xs : List X) (a b : X) → Lowest lt xs a → Lowest lt xs b → a ≡ b
   lowest-one xs a b f g =

@@ -4,3 +4,5 @@ pub mod Orders
 pub mod Rearranged
 pub mod Sorting
 pub mod Stabbing
+pub mod Waking
+pub mod Walking
