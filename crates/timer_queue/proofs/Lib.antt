@@ -6,3 +6,6 @@ pub mod Sorting
 pub mod Stabbing
 pub mod Waking
 pub mod Walking
+pub mod Appending
+pub mod Invariant
+pub mod Keeping
