@@ -66,6 +66,10 @@ module _ {X : Type 0} where
   any-right P [] ys p = p
   any-right P (x ∷ xs) ys p = inr (any-right P xs ys p)
 
+  pub pairwise-weaker : (R S : X → X → Type 0) → ((x y : X) → R x y → S x y) → (xs : List X) → Pairwise R xs → Pairwise S xs
+  pairwise-weaker R S f [] p = tt
+  pairwise-weaker R S f (x ∷ xs) p = (all-weaker (R x) (S x) (f x) xs (p .0), pairwise-weaker R S f xs (p .1))
+
   pub pairwise-append : (R : X → X → Type 0) (xs ys : List X) → Pairwise R xs → Pairwise R ys → All (λ x. All (R x) ys) xs → Pairwise R (xs ++ ys)
   pairwise-append R [] ys p q r = q
   pairwise-append R (x ∷ xs) ys p q r = (all-append (R x) xs ys (p .0) (r .0), pairwise-append R xs ys (p .1) q (r .1))

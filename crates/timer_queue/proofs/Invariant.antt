@@ -51,12 +51,16 @@ module _ {A : Type 0} (before : A → A → Bool) (o : StrictOrder before) where
   abbrev pub Marked : List (Event A) → State A → Firing A → Type 0
   Marked es s f = Past before o (f .hard) (s .clock) (s .pending) × Any (λ k. From (k .timer) f × Bound k) (courses es)
 
-  pub record Holds (c : A) (es : List (Event A)) (s : State A) : Type 0 where
+  -- what holds of the pending timers and the alarm between calls
+  pub record Sound (s : State A) : Type 0 where
     pub due : s .due ≡ least-hard before (s .pending)
-    pub now : clock-after c es ≡ s .clock
     pub distinct : Distinct (s .pending)
     pub proper : Proper before o (s .pending)
     pub ahead : All (λ p. before (p .hard) (s .clock) ≡ false) (s .pending)
+
+  pub record Holds (c : A) (es : List (Event A)) (s : State A) : Type 0 where
+    pub sound : Sound s
+    pub now : clock-after c es ≡ s .clock
     pub fates : All (Fate s) (courses es)
     pub owned : All (Owned es) (s .pending)
     pub counts : length (marked es) ≡ wake-ups es
@@ -85,12 +89,9 @@ module _ {A : Type 0} (before : A → A → Bool) (o : StrictOrder before) where
 
   -- what a call does that has the event e and takes s to s′
   pub record Step (s : State A) (e : Event A) (s′ : State A) : Type 0 where
-    pub due : s′ .due ≡ least-hard before (s′ .pending)
+    pub sound : Sound s′
     pub now : e .clock ≡ s′ .clock
     pub onward : before (s′ .clock) (s .clock) ≡ false
-    pub distinct : Distinct (s′ .pending)
-    pub proper : Proper before o (s′ .pending)
-    pub ahead : All (λ q. before (q .hard) (s′ .clock) ≡ false) (s′ .pending)
     pub treated : All (Treated e s′) (s .pending)
     pub fresh : All (λ k. In (s′ .pending) (k .timer)) (course (e .deed) [])
     pub origins : All (Origin s e) (s′ .pending)

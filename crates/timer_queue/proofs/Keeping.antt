@@ -1,5 +1,5 @@
 -- A step keeps the invariant.
-use mathlib.Core.Path.{_≡_, refl, sym, ap, subst, _∙_}
+use mathlib.Core.Path.{_≡_, refl, sym, ap, ap₂, subst, _∙_}
 use mathlib.Core.Bool.{Bool, true, false, not, _||_, _&&_}
 use mathlib.Core.List.{List, [], _∷_, _++_, append-nil, append-assoc}
 use mathlib.Core.Logic.{_⊎_, inl, inr, ⊎-elim}
@@ -14,10 +14,10 @@ use Rattle.timer_queue.specs.declared.firing.Firing.{Firing}
 use Rattle.timer_queue.specs.Order.{StrictOrder}
 use Rattle.timer_queue.specs.Lists.{Any, Pairwise}
 use Rattle.timer_queue.specs.Calls.{State}
-use Rattle.timer_queue.specs.Events.{Deed, Event}
+use Rattle.timer_queue.specs.Events.{Deed, armed, cancelled, advanced, Event}
 use Rattle.timer_queue.specs.Histories.{Course, logged, log, marked, woken, wake-ups, course, courses, dropped-by, dropped, tries, of, undisturbed}
-use Rattle.timer_queue.specs.Claims.{Due-once}
-use Rattle.timer_queue.proofs.Elements.{In, all-in, all-from-in, any-find, any-weaker, kept-in, all-both, pairwise-append}
+use Rattle.timer_queue.specs.Claims.{Due-once, Counted}
+use Rattle.timer_queue.proofs.Elements.{In, all-in, all-from-in, any-find, any-weaker, in-kept, kept-in, pairwise-append}
 use Rattle.timer_queue.proofs.Orders.{lt-le}
 use Rattle.timer_queue.proofs.Stabbing.{Over}
 use Rattle.timer_queue.proofs.Waking.{From, from-of}
@@ -44,6 +44,19 @@ module _ {A : Type 0} (before : A → A → Bool) (o : StrictOrder before) where
               ap (λ b. b || (not (tries (x .number) (e .deed)) && undisturbed before x more)) (q .ahead) ∙
               ap (λ b. not b && undisturbed before x more) (q .untried)
       }
+
+  new-alive : (d : Deed A) (Q : Timer A → Type 0) → Any (λ k. Q (k .timer)) (course d []) → Any (λ k. Q (k .timer) × Alive before o k) (course d [])
+  new-alive (armed true x) Q (inl h) = inl (h, record { unfired = λ more. refl; undropped = λ more. refl; untried = λ more. refl })
+  new-alive (armed true x) Q (inr i) = elim i [ ]
+  new-alive (armed false x) Q i = elim i [ ]
+  new-alive (cancelled b n) Q i = elim i [ ]
+  new-alive (advanced b t n fs) Q i = elim i [ ]
+
+  new-fates : (d : Deed A) (s : State A) → All (λ k. In (s .pending) (k .timer)) (course d []) → All (Fate before o s) (course d [])
+  new-fates (armed true x) s a = (inl (record { unfired = λ more. refl; undropped = λ more. refl; untried = λ more. refl }, a .0), tt)
+  new-fates (armed false x) s a = tt
+  new-fates (cancelled b n) s a = tt
+  new-fates (advanced b t n fs) s a = tt
 
   module _ (s : State A) (e : Event A) (s′ : State A) (step : Step before o s e s′) where
     past-more : (a : A) → Past before o a (s .clock) (s .pending) → Past before o a (s′ .clock) (s′ .pending)
@@ -81,3 +94,94 @@ module _ {A : Type 0} (before : A → A → Bool) (o : StrictOrder before) where
         (λ h. fate-treated k (h .0) (all-in (Treated before o e s′) (k .timer) (s .pending) (step .treated) (h .1)))
         (⊎-elim {C = Fate before o s′ (longer e k)} (λ h. inr (inl (done-more k h)))
             (λ h. inr (inr (λ more. ap (dropped (k .timer .number)) (shift e (k .later) more) ∙ h (e ∷ more)))))
+
+    owned-more : (es : List (Event A)) (q : Timer A) → All (Owned before o es) (s .pending) → Origin before o s e q → Owned before o (then-too e es) q
+    owned-more es q own =
+        ⊎-elim {C = Owned before o (then-too e es) q}
+        (λ h. any-courses e (λ k. (k .timer ≡ q) × Alive before o k) (λ k. (k .timer ≡ q) × Alive before o k)
+            (λ k a. (a .0, alive-more e k (subst (Quiet before o e) (sym (a .0)) (h .1)) (a .1))) es
+            (all-in (Owned before o es) q (s .pending) own (h .0)))
+        (λ h. any-new e (λ k. (k .timer ≡ q) × Alive before o k) es (new-alive (e .deed) (λ x. x ≡ q) (h .0)))
+
+    due : (k : Course A) (f : Firing A) (p : Timer A) → k .timer ≡ p → Alive before o k → kept-by (of before p) (logged (e .deed)) ≡ f ∷ [] →
+        Due-once before (logged (e .deed)) f k
+    due k f p same a one =
+        (ap (dropped (k .timer .number)) (sym (append-nil (k .later))) ∙ a .undropped [],
+            ap (λ l. kept-by (of before (k .timer)) (log l)) (sym (append-nil (k .later))) ∙ a .unfired [],
+            ap (λ x. kept-by (of before x) (logged (e .deed))) same ∙ one)
+
+    -- the timer that an entry is of, with all its entries
+    entry-one : (f : Firing A) → In (logged (e .deed)) f → (p : Timer A) × In (s .pending) p × From p f × (kept-by (of before p) (logged (e .deed)) ≡ f ∷ [])
+    entry-one f i =
+        let fs = logged (e .deed) in
+        let h = any-find (λ p. From p f) (s .pending) (all-in (λ g. Any (λ p. From p g) (s .pending)) f fs (step .logs) i) in
+        let p = h .0 in
+        let stands = kept-in (of before p) f fs i (from-of before o p f (h .2)) in
+        (p, h .1, h .2,
+            ⊎-elim (λ q. absurd (subst (λ l. In l f) (q .1 .unlogged) stands))
+            (⊎-elim (λ q. q .one ∙ ⊎-elim (λ same. ap (λ g. g ∷ []) same) (λ n. absurd n) (subst (λ l. In l f) (q .one) stands))
+                (λ q. absurd (subst (λ l. In l f) (q .unlogged) stands)))
+            (all-in (Treated before o e s′) p (s .pending) (step .treated) (h .1)))
+
+    entries-due : (es : List (Event A)) → All (Owned before o es) (s .pending) →
+        All (λ f. Any (Due-once before (logged (e .deed)) f) (courses es)) (logged (e .deed))
+    entries-due es own =
+        let fs = logged (e .deed) in
+        all-from-in (λ f. Any (Due-once before fs f) (courses es)) fs
+        (λ f i.
+            let r = entry-one f i in
+            any-weaker (λ k h. due k f (r .0) (h .0) (h .1) (r .3)) (courses es) (all-in (Owned before o es) (r .0) (s .pending) own (r .1)))
+
+    marked-more : (es : List (Event A)) → marked (then-too e es) ≡ marked es ++ marks before o (logged (e .deed))
+    marked-more es = ap (marks before o) (log-more e es) ∙ kept-by-append (λ f. f .mark) (log es) (logged (e .deed))
+
+    bound-still : (es : List (Event A)) (f : Firing A) → Marked before o es s f → Marked before o (then-too e es) s′ f
+    bound-still es f h =
+        (past-more (f .hard) (h .0),
+            any-courses e (λ k. From (k .timer) f × Bound before o k) (λ k. From (k .timer) f × Bound before o k)
+            (λ k b. (b .0, λ more. ap (undisturbed before (k .timer)) (shift e (k .later) more) ∙ b .1 (e ∷ more))) es (h .1))
+
+    -- the advance that fired it took the clock past its hard time
+    bound-now : (k : Course A) (f : Firing A) (p : Timer A) → k .timer ≡ p → Alive before o k → From p f → Past before o (f .hard) (s′ .clock) (s′ .pending) →
+        From (k .timer) f × Bound before o (longer e k)
+    bound-now k f p same a from over =
+        let mine = subst (λ x. From x f) (sym same) from in
+        let passed : before (k .timer .hard) (e .clock) ≡ true =
+                ap (λ h. before h (e .clock)) (sym (mine .hard)) ∙ ap (before (f .hard)) (step .now) ∙ over .clock in
+        (mine, λ more. ap (undisturbed before (k .timer)) (shift e (k .later) more) ∙ a .untried (e ∷ more) ∙
+            ap (λ b. b || (not (tries (k .timer .number) (e .deed)) && undisturbed before (k .timer) more)) passed)
+
+    bound-new : (es : List (Event A)) → All (Owned before o es) (s .pending) → All (Marked before o (then-too e es) s′) (marks before o (logged (e .deed)))
+    bound-new es own =
+        let fs = logged (e .deed) in
+        all-from-in (Marked before o (then-too e es) s′) (marks before o fs)
+        (λ f i.
+            let over = all-in (λ g. Past before o (g .hard) (s′ .clock) (s′ .pending)) f (marks before o fs) (step .over) i in
+            let r = entry-one f (in-kept (λ g. g .mark) f fs i) in
+            (over, any-courses e (λ k. (k .timer ≡ r .0) × Alive before o k) (λ k. From (k .timer) f × Bound before o k)
+                (λ k h. bound-now k f (r .0) (h .0) (h .1) (r .2) over) es (all-in (Owned before o es) (r .0) (s .pending) own (r .1))))
+
+    apart-more : (es : List (Event A)) → Pairwise (Over before o) (marked es) → All (Marked before o es s) (marked es) → Pairwise (Over before o) (marked (then-too e es))
+    apart-more es p b =
+        let fs = logged (e .deed) in
+        subst (Pairwise (Over before o)) (sym (marked-more es))
+        (pairwise-append (Over before o) (marked es) (marks before o fs) p (step .apart)
+            (all-weaker (Marked before o es s) (λ f. All (Over before o f) (marks before o fs))
+                (λ f h. all-kept-by (λ g. g .mark) (Over before o f) fs (logs-after before o (f .hard) (s .pending) fs (h .0 .softs) (step .logs)))
+                (marked es) b))
+
+    pub holds-more : (c : A) (es : List (Event A)) → Holds before o c es s → Holds before o c (then-too e es) s′
+    holds-more c es h = record {
+        sound = step .sound;
+        now = clock-more e c es ∙ step .now;
+        fates = all-courses e (Fate before o s) (Fate before o s′) fate-more es (h .fates) (new-fates (e .deed) s′ (step .fresh));
+        owned = all-weaker (Origin before o s e) (Owned before o (then-too e es)) (λ q. owned-more es q (h .owned)) (s′ .pending) (step .origins);
+        counts = ap length (marked-more es) ∙ length-append (marked es) (marks before o (logged (e .deed))) ∙
+            ap₂ _+_ (h .counts) (step .counts) ∙ sym (wake-ups-more e es);
+        apart = apart-more es (h .apart) (h .bound);
+        bound = subst (All (Marked before o (then-too e es) s′)) (sym (marked-more es))
+            (all-append (Marked before o (then-too e es) s′) (marked es) (marks before o (logged (e .deed)))
+                (all-weaker (Marked before o es s) (Marked before o (then-too e es) s′) (bound-still es) (marked es) (h .bound)) (bound-new es (h .owned)));
+        logs = each-more e _ [] es (h .logs) (entries-due es (h .owned));
+        counted = all-push (λ d. Counted (d .deed)) es e (h .counted) (step .counted)
+      }

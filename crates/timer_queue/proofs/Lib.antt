@@ -9,3 +9,9 @@ pub mod Walking
 pub mod Appending
 pub mod Invariant
 pub mod Keeping
+pub mod Stepping
+pub mod Living
+pub mod Claiming
+pub mod Recording
+pub mod Points
+pub mod Listing

@@ -64,7 +64,7 @@ module _ {A : Type 0} where
   abbrev pub dropped-by : ℕ → Deed A → Bool → Bool
   dropped-by n (armed true x) r = not (numbered n x) && r
   dropped-by n (armed false x) r = r
-  dropped-by n (cancelled true m) r = eqb m n || r
+  dropped-by n (cancelled true m) r = eqb n m || r
   dropped-by n (cancelled false m) r = r
   dropped-by n (advanced b t k fs) r = r
 
@@ -74,7 +74,7 @@ module _ {A : Type 0} where
 
   abbrev pub tries : ℕ → Deed A → Bool
   tries n (armed b x) = false
-  tries n (cancelled b m) = eqb m n
+  tries n (cancelled b m) = eqb n m
   tries n (advanced b t k fs) = false
 
 module _ {A : Type 0} (before : A → A → Bool) where
