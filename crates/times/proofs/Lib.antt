@@ -1,0 +1,4 @@
+pub mod ByPlace
+pub mod DayTimes
+pub mod TestedFacts
+pub mod TickTimes
