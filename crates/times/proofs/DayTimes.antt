@@ -6,8 +6,8 @@ use mathlib.Core.Logic.{⊎-elim}
 use Prim.Native.Nat.{ℕ, _+_, _*_, _/_, _%_, _^_, _<_, _≤_}
 use native.Mathlib.Bridge.{le-prop}
 use native.Mathlib.Omega.{arith}
-use lib.Dec.{ltb}
-use Rattle.std.proofs.shelf.Tests.{ltb-false, lt-ltb, le-ltb, and-from, and-left, and-right, and-cases}
+use lib.Dec.{ltb, lit<}
+use Rattle.std.proofs.shelf.Tests.{ltb-false, lt-ltb, le-ltb, and-from, and-left, and-cases}
 use Rattle.std.specs.declared.option.Option.the-variants.{Some, None}
 use Rattle.times.specs.Places.{Measure}
 use Rattle.times.specs.Plain.{PlainForm}
@@ -38,9 +38,6 @@ day-tick-made a day tick d t =
 pub no-such-day : (day tick : ℕ) → 2 ^ 32 ≤ day → day-tick-of day tick ≡ None
 no-such-day day tick h = tested-not (ltb day (2 ^ 32) && ltb tick 8640000) _ (and-left _ _ (le-ltb day (2 ^ 32) h))
 
-pub no-such-tick : (day tick : ℕ) → 8640000 ≤ tick → day-tick-of day tick ≡ None
-no-such-tick day tick h = tested-not (ltb day (2 ^ 32) && ltb tick 8640000) _ (and-right _ _ (le-ltb tick 8640000 h))
-
 fields : (day tick : ℕ) (a : DayTick) → day-tick-of day tick ≡ Some a → (a .day ≡ day) × (a .tick ≡ tick)
 fields day tick a e =
     let made = from-some (ltb day (2 ^ 32) && ltb tick 8640000) _ a e in
@@ -58,6 +55,7 @@ day-tick-measure = record {
   ordered = λ a b. refl;
   found = λ n a e. let f = fields (n / 8640000) (n % 8640000) a e in omega (arith, f .0, f .1);
   past = past-last;
+  fits = lit< tt;
   bounded = λ a. omega (arith, a .within .0, a .within .1);
 }
 

@@ -1,17 +1,17 @@
 -- Tick time is measured, and its place is its plain form. Assumes nothing.
 use mathlib.Core.Path.{_≡_, refl, ap}
 use mathlib.Core.HLevel.{isProp→PathP}
-use Prim.Native.Nat.{ℕ, _^_, _<_, _≤_}
+use Prim.Native.Nat.{ℕ, _^_, _<_}
 use native.Mathlib.Bridge.{le-prop}
 use native.Mathlib.Omega.{arith}
-use lib.Dec.{ltb}
-use Rattle.std.proofs.shelf.Tests.{ltb-false, lt-ltb, le-ltb}
+use lib.Dec.{ltb, lit<}
+use Rattle.std.proofs.shelf.Tests.{ltb-false, lt-ltb}
 use Rattle.std.specs.declared.option.Option.the-variants.{Some, None}
 use Rattle.times.specs.Places.{Measure}
 use Rattle.times.specs.Plain.{PlainForm}
 use Rattle.times.specs.Ticks.{tick-place, tick-before, tick-at, last-tick}
 use Rattle.times.specs.declared.ticks.Tick.{Tick}
-use Rattle.times.proofs.TestedFacts.{tested-is, tested-not, from-some, from-none}
+use Rattle.times.proofs.TestedFacts.{tested-is, from-some, from-none}
 
 pub tick-same : (a b : Tick) → tick-place a ≡ tick-place b → a ≡ b
 tick-same a b e j = record {
@@ -22,9 +22,6 @@ tick-same a b e j = record {
 pub tick-found : (a : Tick) → tick-at (a .place) ≡ Some a
 tick-found a = tested-is (ltb (a .place) (2 ^ 62)) _ a (lt-ltb (a .place) (2 ^ 62) (a .within)) (λ e. tick-same _ a refl)
 
-pub tick-none : (n : ℕ) → 2 ^ 62 ≤ n → tick-at n ≡ None
-tick-none n h = tested-not (ltb n (2 ^ 62)) _ (le-ltb n (2 ^ 62) h)
-
 tick-only : (n : ℕ) (a : Tick) → tick-at n ≡ Some a → a .place ≡ n
 tick-only n a e = let made = from-some (ltb n (2 ^ 62)) _ a e in cc (ap tick-place (made .1))
 
@@ -33,6 +30,7 @@ tick-measure = record {
   ordered = λ a b. refl;
   found = tick-only;
   past = λ n e. omega (arith, ltb-false n (2 ^ 62) (from-none (ltb n (2 ^ 62)) _ e));
+  fits = lit< tt;
   bounded = λ a. omega (arith, a .within);
 }
 

@@ -2,7 +2,7 @@
 ghost use mathlib.Core.Path.{_≡_};
 ghost use Prim.Native.Nat.{ℕ};
 ghost use Rattle.std.specs.declared.option.Option.{Option};
-ghost use Rattle.times.specs.Places.{Measure, after, capped};
+ghost use Rattle.times.specs.Places.{Measure, capped, later};
 use crate::order::Time;
 
 pub trait Measured: Time {
@@ -19,8 +19,8 @@ pub trait Measured: Time {
         ensures measure { λ _. ⌜ Measure (Self·Time .before) place at last ⌝ };
 
     // The time n ticks on, if there is one.
-    fn after(self, n: u32) -> Option<Self>
-        ensures value { λ r. ⌜ r ≡ after place at self n ⌝ }
+    fn checked_ahead(self, n: u32) -> Option<Self>
+        ensures value { λ r. ⌜ r ≡ later place at self n ⌝ }
         ensures measure { λ _. ⌜ Measure (Self·Time .before) place at last ⌝ };
 
     fn last() -> Self
@@ -31,7 +31,7 @@ pub trait Measured: Time {
         ensures value { λ r. ⌜ r ≡ capped place at last self n ⌝ }
         ensures measure { λ _. ⌜ Measure (Self·Time .before) place at last ⌝ }
     {
-        match self.after(n) {
+        match self.checked_ahead(n) {
             Some(t) => t,
             None => Self::last(),
         }

@@ -41,7 +41,7 @@ pub impl Measured for DayTick as DayTickMeasured {
     }
 
     // The ticks past midnight carry over into the day, several days at once.
-    fn after(self, n: u32) -> Option<DayTick> {
+    fn checked_ahead(self, n: u32) -> Option<DayTick> {
         let ticks = u64::from(self.tick) + u64::from(n);
         let day = u64::from(self.day) + ticks / TICKS_A_DAY;
         let tick = (ticks % TICKS_A_DAY) as u32;

@@ -40,7 +40,7 @@ pub impl Measured for Tick as TickMeasured {
         self.place
     }
 
-    fn after(self, n: u32) -> Option<Tick> {
+    fn checked_ahead(self, n: u32) -> Option<Tick> {
         Tick::new(self.place + u64::from(n)).ok()
     }
 

@@ -8,7 +8,7 @@ use Rattle.times.specs.Ticks.{tick-at}
 use Rattle.times.specs.declared.faults.TimeFault.the-variants.{NoSuchTime}
 use Rattle.times.specs.declared.ticks.Tick.{Tick}
 use Rattle.times.proofs.TickTimes.{tick-measure}
-use Rattle.times.proofs.ticks.kind.TickMeasured.after.Needs as need
+use Rattle.times.proofs.ticks.kind.TickMeasured.checked_ahead.Needs as need
 
 ok-back : (o : Option Tick) → okPart (okOr o NoSuchTime) ≡ o
 ok-back None = refl

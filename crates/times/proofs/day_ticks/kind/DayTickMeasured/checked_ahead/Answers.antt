@@ -3,7 +3,7 @@ use Prim.Native.Nat.{ℕ, _+_, _/_, _%_}
 use native.Mathlib.Omega.{arith}
 use Rattle.times.specs.DayTicks.{day-tick-place}
 use Rattle.times.proofs.DayTimes.{day-tick-made, no-such-day, day-tick-measure}
-use Rattle.times.proofs.day_ticks.kind.DayTickMeasured.after.Needs as need
+use Rattle.times.proofs.day_ticks.kind.DayTickMeasured.checked_ahead.Needs as need
 
 pub returns-then-day-from : need.returns-then-day-from
 returns-then-day-from c =
