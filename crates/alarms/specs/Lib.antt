@@ -1,0 +1,3 @@
+pub mod Comparators
+pub mod Faults
+pub mod Meaning
