@@ -5,9 +5,10 @@ ghost use Rattle.alarms.specs.Comparators.{compare-due};
 use crate::faults::AlarmFault;
 use crate::faults::Passage;
 use crate::meaning::Alarm;
+use crate::steps::ring_before;
 use times::Time;
 
-#[derive(Clone, Copy, Debug)]
+#[derive(Clone, Copy)]
 pub struct Comparator<T> {
     clock: T,
     compare: Option<T>,
@@ -51,15 +52,12 @@ pub impl<T: Time> Alarm<T> for Comparator<T> as ComparatorAlarm {
     }
 
     fn pass(&mut self, t: T) -> Result<Passage, AlarmFault> {
-        if t.before(self.clock) {
-            return Err(AlarmFault::BeforeClock);
-        }
-        match self.due() {
-            Some(due) if due.before(t) => {
-                *self = Comparator::new(due);
+        match ring_before(self.clock, self.due(), t)? {
+            Some(ring) => {
+                *self = Comparator::new(ring);
                 Ok(Passage::Rang)
             }
-            _ => {
+            None => {
                 self.clock = t;
                 Ok(Passage::Arrived)
             }
