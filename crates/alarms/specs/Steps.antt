@@ -1,20 +1,21 @@
 -- Steps that devices share: to find the ring on the way of a pass, and the ticks to a time to be set. Assumes nothing.
 use mathlib.Core.Path.{_≡_}
-use mathlib.Core.Bool.{Bool}
+use mathlib.Core.Bool.{Bool, true, false}
 use Prim.Native.Nat.{ℕ, _+_, _≤_}
 use Rattle.std.specs.declared.option.Option.{Option}
 use Rattle.std.specs.declared.option.Option.the-variants.{Some, None}
 use Rattle.std.specs.declared.result.Result.{Result}
 use Rattle.std.specs.declared.result.Result.the-variants.{Ok, Err}
-use Rattle.alarms.specs.Meaning.{accepted, arrived, pass-to, rang, refused, set-within}
+use Rattle.alarms.specs.Meaning.{NotPast, accepted, refused, set-within}
 use Rattle.alarms.specs.declared.faults.AlarmFault.{AlarmFault}
+use Rattle.alarms.specs.declared.faults.AlarmFault.the-variants.{BeforeClock}
 
 module _ {A : Type 0} (before : A → A → Bool) where
-  -- the ring, or none on the way
+  -- the ring on the way from the clock to t, or none
   abbrev pub RingBefore : A → Option A → A → Result (Option A) AlarmFault → Type 0
-  RingBefore clock due t (Err fault) = pass-to before clock due t ≡ refused fault clock due
-  RingBefore clock due t (Ok (Some ring)) = pass-to before clock due t ≡ rang ring
-  RingBefore clock due t (Ok None) = pass-to before clock due t ≡ arrived t due
+  RingBefore clock due t (Err fault) = (before t clock ≡ true) × (fault ≡ BeforeClock)
+  RingBefore clock due t (Ok (Some ring)) = (before t clock ≡ false) × (due ≡ Some ring) × (before ring t ≡ true)
+  RingBefore clock due t (Ok None) = (before t clock ≡ false) × NotPast before t due
 
   -- t is so many ticks past the clock, and can be set whatever was due before
   pub record Near (place : A → ℕ) (reach : ℕ) (clock t : A) (ticks : ℕ) : Type 0 where

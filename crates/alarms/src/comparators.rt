@@ -19,7 +19,10 @@ impl<T: Time> Comparator<T> {
         ensures clock { λ r. ⌜ r .clock ≡ clock ⌝ }
         ensures due { λ r. ⌜ compare-due (T·Time .before) (r .clock) (r .compare) ≡ None ⌝ }
     {
-        Comparator { clock, compare: None }
+        Comparator {
+            clock,
+            compare: None,
+        }
     }
 }
 

@@ -13,6 +13,8 @@ impl LowBits {
     pub fn of(place: u64) -> Self
         ensures { λ r. ⌜ r .value ≡ place % 4096 ⌝ }
     {
-        LowBits { value: (place % 4096) as u16 }
+        LowBits {
+            value: (place % 4096) as u16,
+        }
     }
 }
