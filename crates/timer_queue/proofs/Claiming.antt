@@ -10,7 +10,7 @@ use Rattle.std.specs.shelf.Lists.{All, kept-by}
 use Rattle.std.proofs.shelf.Elements.{all-weaker}
 use Rattle.std.proofs.shelf.Tests.{both-ways, and-from}
 use Rattle.timer_queue.specs.declared.firing.Firing.{Firing}
-use Rattle.timer_queue.specs.Order.{StrictOrder}
+use Rattle.times.specs.Order.{StrictOrder}
 use Rattle.timer_queue.specs.Lists.{Any, Pairwise}
 use Rattle.timer_queue.specs.Timers.{Inside}
 use Rattle.timer_queue.specs.Calls.{State}

@@ -8,7 +8,7 @@ use Prim.Native.Nat.{ℕ}
 use Rattle.std.specs.shelf.Lists.{All, kept-by}
 use Rattle.slot_heaps.specs.declared.timer.Timer.{Timer}
 use Rattle.timer_queue.specs.declared.firing.Firing.{Firing}
-use Rattle.timer_queue.specs.Order.{StrictOrder}
+use Rattle.times.specs.Order.{StrictOrder}
 use Rattle.timer_queue.specs.Lists.{Any, Pairwise}
 use Rattle.timer_queue.specs.Timers.{Distinct, least-hard}
 use Rattle.timer_queue.specs.Calls.{State}

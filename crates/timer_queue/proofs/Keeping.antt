@@ -11,7 +11,7 @@ use Rattle.std.proofs.shelf.Elements.{all-weaker, all-append, all-push, all-kep
 use Rattle.std.proofs.shelf.Tests.{both-ways}
 use Rattle.slot_heaps.specs.declared.timer.Timer.{Timer}
 use Rattle.timer_queue.specs.declared.firing.Firing.{Firing}
-use Rattle.timer_queue.specs.Order.{StrictOrder}
+use Rattle.times.specs.Order.{StrictOrder}
 use Rattle.timer_queue.specs.Lists.{Any, Pairwise}
 use Rattle.timer_queue.specs.Calls.{State}
 use Rattle.timer_queue.specs.Events.{Deed, armed, cancelled, advanced, Event}

@@ -8,7 +8,7 @@ use Rattle.std.specs.declared.option.Option.the-variants.{Some, None}
 use Rattle.std.specs.shelf.Lists.{All}
 use Rattle.std.proofs.shelf.Elements.{all-weaker}
 use Rattle.std.proofs.shelf.Tests.{cond-both, cases-bool}
-use Rattle.timer_queue.specs.Order.{StrictOrder}
+use Rattle.times.specs.Order.{StrictOrder}
 use Rattle.timer_queue.specs.Lists.{Any, least, lesser}
 use Rattle.timer_queue.proofs.Elements.{In, all-in}
 use Rattle.timer_queue.proofs.Orders.{never-both, le-le}

@@ -16,7 +16,7 @@ use Rattle.slot_heaps.specs.declared.timer.Timer.{Timer}
 use Rattle.timer_queue.specs.declared.firing.Firing.{Firing}
 use Rattle.timer_queue.specs.declared.fault.QueueFault.{QueueFault}
 use Rattle.timer_queue.specs.declared.fault.QueueFault.the-variants.{AlarmMoved, AdvancePassed, LogShort}
-use Rattle.timer_queue.specs.Order.{StrictOrder}
+use Rattle.times.specs.Order.{StrictOrder}
 use Rattle.timer_queue.specs.Lists.{Pairwise, Rearranged, sorted}
 use Rattle.timer_queue.specs.Timers.{Distinct, same, by-soft, least-hard}
 use Rattle.timer_queue.specs.WakeUps.{Served, entry, ripe, spared, bearer, wake-up, still, after, serve-from, serve, walk}

@@ -14,7 +14,7 @@ use Rattle.std.proofs.shelf.Tests.{both-ways}
 use Rattle.slot_heaps.specs.declared.timer.Timer.{Timer}
 use Rattle.timer_queue.specs.declared.fault.QueueFault.{QueueFault}
 use Rattle.timer_queue.specs.declared.fault.QueueFault.the-variants.{AdvancePassed}
-use Rattle.timer_queue.specs.Order.{StrictOrder}
+use Rattle.times.specs.Order.{StrictOrder}
 use Rattle.timer_queue.specs.WakeUps.{Served, walk}
 use Rattle.timer_queue.specs.Calls.{State, started, conclude, settle, arm-fault, cancel-fault, advance-fault}
 use Rattle.timer_queue.specs.Events.{advanced, Event, event, counts, Lived, starting, armed-next, cancelled-next, advanced-next, arm-event, cancel-event, advance-event}

@@ -6,7 +6,7 @@ use lib.Dec.{ltb, eqb}
 use Prim.Native.Nat.{ℕ, _<_, _≤_}
 use native.Mathlib.Omega.{arith}
 use Rattle.std.proofs.shelf.Tests.{cases-bool, both-ways, ltb-true, ltb-false, lt-ltb, le-ltb, or-parts, not-true, not-from-false, or-from}
-use Rattle.timer_queue.specs.Order.{StrictOrder}
+use Rattle.times.specs.Order.{StrictOrder}
 use Rattle.timer_queue.specs.Timers.{same}
 
 pub number-order : StrictOrder ltb

@@ -11,7 +11,7 @@ use Rattle.std.specs.shelf.Lists.{All, kept-by}
 use Rattle.std.proofs.shelf.Elements.{all-weaker, all-kept-by}
 use Rattle.std.proofs.shelf.Tests.{cond-both, not-from-true}
 use Rattle.slot_heaps.specs.declared.timer.Timer.{Timer}
-use Rattle.timer_queue.specs.Order.{StrictOrder}
+use Rattle.times.specs.Order.{StrictOrder}
 use Rattle.timer_queue.specs.Lists.{Any}
 use Rattle.timer_queue.specs.Timers.{least-hard}
 use Rattle.timer_queue.specs.WakeUps.{Served, ripe, spared, still, after, serve-from, serve, walk}

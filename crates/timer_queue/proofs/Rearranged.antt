@@ -10,7 +10,7 @@ use Rattle.std.specs.declared.option.Option.{Option}
 use Rattle.std.specs.declared.option.Option.the-variants.{Some, None}
 use Rattle.std.specs.shelf.Lists.{All, kept-by}
 use Rattle.std.proofs.shelf.Tests.{cond-both, cases-bool, cond-true, cond-false}
-use Rattle.timer_queue.specs.Order.{StrictOrder}
+use Rattle.times.specs.Order.{StrictOrder}
 use Rattle.timer_queue.specs.Lists.{Any, Pairwise, Rearranged, none, keep, swap, then, least}
 use Rattle.timer_queue.proofs.Elements.{In}
 use Rattle.timer_queue.proofs.Least.{Lowest, least-lowest, least-none, lowest-one}

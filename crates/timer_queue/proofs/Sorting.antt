@@ -4,7 +4,7 @@ use mathlib.Core.Bool.{Bool, true, false}
 use mathlib.Core.List.{List, [], _∷_}
 use mathlib.Core.Logic.{_⊎_, inl, inr, ⊎-elim}
 use Rattle.std.proofs.shelf.Tests.{cond-both, cases-bool, cond-true, cond-false}
-use Rattle.timer_queue.specs.Order.{StrictOrder}
+use Rattle.times.specs.Order.{StrictOrder}
 use Rattle.timer_queue.specs.Lists.{Pairwise, Rearranged, none, keep, swap, then, put, sorted}
 use Rattle.timer_queue.proofs.Orders.{never-both, lt-le}
 use Rattle.timer_queue.proofs.Rearranged.{rearranged-itself, pairwise-rearranged}

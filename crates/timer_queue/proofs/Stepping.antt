@@ -15,7 +15,7 @@ use Rattle.std.proofs.shelf.Tests.{both-ways, cases-bool, not-true, not-from-fa
 use Rattle.slot_heaps.specs.declared.timer.Timer.{Timer}
 use Rattle.timer_queue.specs.declared.fault.QueueFault.{QueueFault}
 use Rattle.timer_queue.specs.declared.fault.QueueFault.the-variants.{AlarmMoved, HardBeforeSoft, SoftPassed, NumberPending, NotPending}
-use Rattle.timer_queue.specs.Order.{StrictOrder}
+use Rattle.times.specs.Order.{StrictOrder}
 use Rattle.timer_queue.specs.Lists.{Any, Pairwise, passes, put}
 use Rattle.timer_queue.specs.Timers.{Distinct, numbered, by-number, least-hard}
 use Rattle.timer_queue.specs.Calls.{State, given, conclude, same-due, as-left, settle, arm-fault, cancel-fault}

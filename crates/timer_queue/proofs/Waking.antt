@@ -12,7 +12,7 @@ use Rattle.std.proofs.shelf.Elements.{all-weaker, all-map, kept-by-passes}
 use Rattle.std.proofs.shelf.Tests.{both-ways, cases-bool, and-parts, and-from, eqb-true, eq-eqb, not-from-true, not-from-false, not-true, cond-true, cond-false}
 use Rattle.slot_heaps.specs.declared.timer.Timer.{Timer}
 use Rattle.timer_queue.specs.declared.firing.Firing.{Firing}
-use Rattle.timer_queue.specs.Order.{StrictOrder}
+use Rattle.times.specs.Order.{StrictOrder}
 use Rattle.timer_queue.specs.Lists.{Any, Pairwise, Rearranged, sorted, least}
 use Rattle.timer_queue.specs.Timers.{Distinct, same, by-soft, least-hard}
 use Rattle.timer_queue.specs.WakeUps.{entry, names, ripe, bearer, wake-up}

@@ -13,7 +13,7 @@ use Rattle.std.proofs.shelf.Elements.{all-weaker, all-append, kept-by-append, k
 use Rattle.std.proofs.shelf.Tests.{both-ways, cases-bool, cond-both, not-true, not-false, not-from-true, not-from-false}
 use Rattle.slot_heaps.specs.declared.timer.Timer.{Timer}
 use Rattle.timer_queue.specs.declared.firing.Firing.{Firing}
-use Rattle.timer_queue.specs.Order.{StrictOrder}
+use Rattle.times.specs.Order.{StrictOrder}
 use Rattle.timer_queue.specs.Lists.{Any, Pairwise}
 use Rattle.timer_queue.specs.Timers.{Distinct, Inside, least-hard}
 use Rattle.timer_queue.specs.WakeUps.{Served, entry, ripe, spared, bearer, wake-up, still, after, serve-from, serve, walk}

@@ -6,7 +6,6 @@ pub mod Greedy
 pub mod Histories
 pub mod Listed
 pub mod Lists
-pub mod Order
 pub mod Rearranging
 pub mod Timers
 pub mod WakeUps

@@ -1,8 +1,0 @@
--- The laws of an order of times. Assumes nothing.
-use mathlib.Core.Path.{_≡_}
-use mathlib.Core.Bool.{Bool, true, false}
-
-pub record StrictOrder {A : Type 0} (before : A → A → Bool) : Type 0 where
-  pub irreflexive : (a : A) → before a a ≡ false
-  pub transitive : (a b c : A) → before a b ≡ true → before b c ≡ true → before a c ≡ true
-  pub connected : (a b : A) → before a b ≡ false → before b a ≡ false → a ≡ b
