@@ -60,5 +60,5 @@ module _ {A : Type 0} (before : A → A → Bool) (o : StrictOrder before) (c : 
       counted = h .counted
     }
 
-pub claims-hold : {A : Type 0} (before : A → A → Bool) → Claims-hold before
+pub claims-hold : {A : Type 0} (before : A → A → Bool) → StrictOrder before → Claims-hold before
 claims-hold before o u c es s l = claimed before o c es s (lived-holds before o l)

@@ -15,3 +15,4 @@ pub mod Claiming
 pub mod Recording
 pub mod Points
 pub mod Listing
+pub mod Refuted

@@ -133,7 +133,7 @@ module _ {A : Type 0} (before : A → A → Bool) (o : StrictOrder before) where
       logged = a .entries; usable = refl; clock = refl; due = least-hard-alike (a .pending); pending = a .pending
     }
 
-pub order-of-listing-is-free : {A : Type 0} (before : A → A → Bool) → Order-of-listing-is-free before
+pub order-of-listing-is-free : {A : Type 0} (before : A → A → Bool) → StrictOrder before → Order-of-listing-is-free before
 order-of-listing-is-free before o s xs t room d r =
     let p = walk before t (s .pending) in
     let q = walk before t xs in

@@ -65,5 +65,5 @@ module _ {A : Type 0} (before : A → A → Bool) (o : StrictOrder before) (t : 
   points zero (x ∷ xs) l proper = absurd (omega arith)
   points (suc n) xs l proper = points-from n (points n) xs l proper (least-hard before xs) refl
 
-pub walk-is-greedy : {A : Type 0} (before : A → A → Bool) → Walk-is-greedy before
+pub walk-is-greedy : {A : Type 0} (before : A → A → Bool) → StrictOrder before → Walk-is-greedy before
 walk-is-greedy before o t xs proper = points before o t (length xs) xs (omega arith) proper

@@ -1,48 +1,37 @@
--- Every list of calls has a history.
-use mathlib.Core.Path.{_≡_, refl, sym, ap, _∙_}
+-- What is recorded of a list of calls is a history of them.
+use mathlib.Core.Path.{_≡_, refl, sym, subst}
 use mathlib.Core.Bool.{Bool}
 use mathlib.Core.List.{List, [], _∷_, _++_, map, append-nil, append-assoc}
 use Prim.Native.Nat.{ℕ}
-use Rattle.timer_queue.specs.Calls.{State, started, arming, cancelling, advancing}
-use Rattle.timer_queue.specs.Events.{Event, Lived, starting, armed-next, cancelled-next, advanced-next, arm-event, cancel-event, advance-event}
-use Rattle.timer_queue.specs.Listed.{Request, arm, cancel, advance, asked, Calls-recorded}
+use Rattle.timer_queue.specs.Calls.{State, started}
+use Rattle.timer_queue.specs.Events.{Event, Lived, starting, armed-next, cancelled-next, advanced-next}
+use Rattle.timer_queue.specs.Listed.{Request, arm, cancel, advance, asked, next-state, next-event, left-by, recorded, Calls-recorded}
 
-map-more : {X Y : Type 0} (f : X → Y) (xs : List X) (x : X) → map f (xs ++ (x ∷ [])) ≡ map f xs ++ (f x ∷ [])
-map-more f [] x = refl
-map-more f (y ∷ xs) x = ap (λ l. f y ∷ l) (map-more f xs x)
+module _ {A : Type 0} (before : A → A → Bool) where
+  asks-next : (s : State A) (q : Request A) (room : ℕ) → asked (next-event before s q room .deed) ≡ q
+  asks-next s (arm x) room = refl
+  asks-next s (cancel n) room = refl
+  asks-next s (advance t) room = refl
 
-module _ {A : Type 0} (before : A → A → Bool) (u : ℕ) (c : A) where
-  abbrev asks : List (Event A) → List (Request A)
-  asks es = map (λ e. asked (e .deed)) es
+  asks-all : (s : State A) (ks : List (Request A × ℕ)) → map (λ e. asked (e .deed)) (recorded before s ks) ≡ map (λ k. k .0) ks
+  asks-all s [] = refl
+  asks-all s (k ∷ ks) = let ih = asks-all (next-state before s (k .0) (k .1)) ks in let here = asks-next s (k .0) (k .1) in cc
 
-  -- some history of calls that ask for qs
-  pub record History (qs : List (Request A)) : Type 0 where
-    pub events : List (Event A)
-    pub state : State A
-    pub asks-for : asks events ≡ qs
-    pub lived : Lived before u c events state
+  module _ (u : ℕ) (c : A) where
+    lives-next : (es : List (Event A)) (s : State A) (q : Request A) (room : ℕ) → Lived before u c es s →
+        Lived before u c (es ++ (next-event before s q room ∷ [])) (next-state before s q room)
+    lives-next es s (arm x) room l = armed-next l x
+    lives-next es s (cancel n) room l = cancelled-next l n
+    lives-next es s (advance t) room l = advanced-next l t room
 
-  next : (q : Request A) (room : ℕ) (qs : List (Request A)) → History qs → History (qs ++ (q ∷ []))
-  next (arm x) room qs h = record {
-      events = h .events ++ (arm-event before (h .state) x ∷ []); state = arming before (h .state) x .left; lived = armed-next (h .lived) x;
-      asks-for = map-more (λ e. asked (e .deed)) (h .events) (arm-event before (h .state) x) ∙ ap (λ l. l ++ (arm x ∷ [])) (h .asks-for)
-    }
-  next (cancel n) room qs h = record {
-      events = h .events ++ (cancel-event before (h .state) n ∷ []); state = cancelling before (h .state) n .left; lived = cancelled-next (h .lived) n;
-      asks-for = map-more (λ e. asked (e .deed)) (h .events) (cancel-event before (h .state) n) ∙ ap (λ l. l ++ (cancel n ∷ [])) (h .asks-for)
-    }
-  next (advance t) room qs h = record {
-      events = h .events ++ (advance-event before (h .state) t room ∷ []); state = advancing before (h .state) t room .left; lived = advanced-next (h .lived) t room;
-      asks-for = map-more (λ e. asked (e .deed)) (h .events) (advance-event before (h .state) t room) ∙ ap (λ l. l ++ (advance t ∷ [])) (h .asks-for)
-    }
-
-  record-all : (calls : List (Request A × ℕ)) (qs : List (Request A)) → History qs → History (qs ++ map (λ k. k .0) calls)
-  record-all [] qs h = record { events = h .events; state = h .state; asks-for = h .asks-for ∙ sym (append-nil qs); lived = h .lived }
-  record-all (k ∷ calls) qs h =
-      let r = record-all calls (qs ++ (k .0 ∷ [])) (next (k .0) (k .1) qs h) in
-      record { events = r .events; state = r .state; asks-for = r .asks-for ∙ append-assoc qs (k .0 ∷ []) (map (λ z. z .0) calls); lived = r .lived }
+    lives-on : (es : List (Event A)) (s : State A) (ks : List (Request A × ℕ)) → Lived before u c es s →
+        Lived before u c (es ++ recorded before s ks) (left-by before s ks)
+    lives-on es s [] l = subst (λ d. Lived before u c d s) (sym (append-nil es)) l
+    lives-on es s (k ∷ ks) l =
+        let e = next-event before s (k .0) (k .1) in
+        let s′ = next-state before s (k .0) (k .1) in
+        subst (λ d. Lived before u c d (left-by before s′ ks)) (append-assoc es (e ∷ []) (recorded before s′ ks))
+        (lives-on (es ++ (e ∷ [])) s′ ks (lives-next es s (k .0) (k .1) l))
 
 pub calls-recorded : {A : Type 0} (before : A → A → Bool) → Calls-recorded before
-calls-recorded before u c calls =
-    let r = record-all before u c calls [] (record { events = []; state = started u c; asks-for = refl; lived = starting }) in
-    (r .events, r .state, r .asks-for, r .lived)
+calls-recorded before u c ks = (asks-all before (started u c) ks, lives-on before u c [] (started u c) ks starting)

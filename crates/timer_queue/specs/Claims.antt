@@ -16,7 +16,6 @@ use Rattle.timer_queue.specs.Lists.{Any, Pairwise}
 use Rattle.timer_queue.specs.Timers.{Inside}
 use Rattle.timer_queue.specs.Events.{Deed, armed, cancelled, advanced, Event, Lived}
 use Rattle.timer_queue.specs.Calls.{State}
-use Rattle.times.specs.Order.{StrictOrder}
 use Rattle.timer_queue.specs.Histories.{Course, logged, log, marked, wake-ups, clock-after, courses, dropped, of, firings, binds}
 
 abbrev pub Counted : {A : Type 0} → Deed A → Type 0
@@ -69,7 +68,7 @@ module _ {A : Type 0} (before : A → A → Bool) where
     pub nothing-else-logged : Nothing-else-logged es
     pub counted : All (λ e. Counted (e .deed)) es
 
-  -- the claims hold of every history that a list of calls leaves, over every order of times
+  -- the claims hold of every history that a list of calls leaves
   abbrev pub Claims-hold : Type 0
   Claims-hold =
-      StrictOrder before → (u : ℕ) (c : A) (es : List (Event A)) (s : State A) → Lived before u c es s → Claims c es
+      (u : ℕ) (c : A) (es : List (Event A)) (s : State A) → Lived before u c es s → Claims c es

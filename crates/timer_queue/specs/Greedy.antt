@@ -8,7 +8,6 @@ use mathlib.Core.List.{List, [], _∷_}
 use Rattle.std.specs.shelf.Lists.{All, kept-by}
 use Rattle.slot_heaps.specs.declared.timer.Timer.{Timer}
 use Rattle.timer_queue.specs.Lists.{Any}
-use Rattle.times.specs.Order.{StrictOrder}
 use Rattle.timer_queue.specs.WakeUps.{Served, walk}
 
 abbrev pub met : {A : Type 0} (before : A → A → Bool) → Timer A → A → Bool
@@ -23,5 +22,5 @@ pub data Greedy {A : Type 0} (before : A → A → Bool) : List (Timer A) → Li
 
 abbrev pub Walk-is-greedy : {A : Type 0} → (A → A → Bool) → Type 0
 Walk-is-greedy {A} before =
-    StrictOrder before → (t : A) (xs : List (Timer A)) → All (λ x. before (x .hard) (x .soft) ≡ false) xs →
+    (t : A) (xs : List (Timer A)) → All (λ x. before (x .hard) (x .soft) ≡ false) xs →
     Greedy before (kept-by (λ x. before (x .hard) t) xs) (walk before t xs .wakes)

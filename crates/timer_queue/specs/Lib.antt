@@ -9,3 +9,5 @@ pub mod Lists
 pub mod Rearranging
 pub mod Timers
 pub mod WakeUps
+pub mod Readings
+pub mod Trials

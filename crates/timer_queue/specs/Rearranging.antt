@@ -8,7 +8,6 @@ use mathlib.Core.List.{List}
 use Prim.Native.Nat.{ℕ}
 use Rattle.slot_heaps.specs.declared.timer.Timer.{Timer}
 use Rattle.timer_queue.specs.Lists.{Rearranged}
-use Rattle.times.specs.Order.{StrictOrder}
 use Rattle.timer_queue.specs.Timers.{Distinct}
 use Rattle.timer_queue.specs.Calls.{State, Outcome, advancing}
 
@@ -25,6 +24,6 @@ pub record Alike {R A : Type 0} (r r′ : Outcome R A) : Type 0 where
 
 abbrev pub Order-of-listing-is-free : {A : Type 0} → (A → A → Bool) → Type 0
 Order-of-listing-is-free {A} before =
-    StrictOrder before → (s : State A) (xs : List (Timer A)) (t : A) (room : ℕ) →
+    (s : State A) (xs : List (Timer A)) (t : A) (room : ℕ) →
     Distinct (s .pending) → Rearranged (s .pending) xs →
     Alike (advancing before s t room) (advancing before (listing s xs) t room)

@@ -1,3 +1,5 @@
-// A queue of one-shot timers with the fewest wake-ups.
+// A queue of one-shot timers with the fewest wake-ups. So far: what it logs, its faults, and the laws of its definitions.
+mod laws;
+
 pub mod fault;
 pub mod firing;
