@@ -14,5 +14,6 @@ pub mod Living
 pub mod Claiming
 pub mod Recording
 pub mod Points
+pub mod Going
 pub mod Listing
 pub mod Refuted

@@ -71,7 +71,7 @@ module _ {A : Type 0} (before : A → A → Bool) (o : StrictOrder before) where
     advance-taken None e = advance-accepted e
     advance-taken (Some f) e =
         idle-step before o s (advanced false t (0, 0) []) h
-        (record { unlogged = refl; unwoken = refl; unarmed = refl; undropped = λ n r. refl; untried = all-from-in _ (s .pending) (λ p i. refl); counted = refl })
+        (record { unlogged = refl; unwoken = refl; unarmed = refl; undropped = λ n r. refl; untried = all-from-in _ (s .pending) (λ p i. refl); counted = (refl, refl, refl) })
 
   pub lived-holds : {u : ℕ} {c : A} {es : List (Event A)} {s : State A} → Lived before u c es s → Holds before o c es s
   lived-holds starting = record {

@@ -9,17 +9,18 @@ use Rattle.std.specs.declared.option.Option.{Option}
 use Rattle.std.specs.declared.option.Option.the-variants.{Some, None}
 use Rattle.std.specs.shelf.Lists.{All, kept-by}
 use Rattle.std.proofs.shelf.Elements.{all-weaker, all-kept-by}
-use Rattle.std.proofs.shelf.Tests.{cond-both, not-from-true}
+use Rattle.std.proofs.shelf.Tests.{cond-both}
 use Rattle.slot_heaps.specs.declared.timer.Timer.{Timer}
 use Rattle.times.specs.Order.{StrictOrder}
 use Rattle.timer_queue.specs.Lists.{Any}
 use Rattle.timer_queue.specs.Timers.{least-hard}
 use Rattle.timer_queue.specs.WakeUps.{Served, ripe, spared, still, after, serve-from, serve, walk}
 use Rattle.timer_queue.specs.Greedy.{met, Greedy, all-met, next-point, Walk-is-greedy}
-use Rattle.timer_queue.proofs.Elements.{any-kept, any-with, map-all, none-kept, kept-like, kept-either-order, kept-shorter}
+use Rattle.timer_queue.proofs.Elements.{any-kept, map-all, none-kept, kept-like, kept-either-order}
 use Rattle.timer_queue.proofs.Orders.{le-le}
 use Rattle.timer_queue.proofs.Least.{least-none}
-use Rattle.timer_queue.proofs.Waking.{Next, next-hard, Proper, ends-ripe}
+use Rattle.timer_queue.proofs.Waking.{Next, next-hard, Proper}
+use Rattle.timer_queue.proofs.Going.{spares-fewer, spares-proper}
 
 module _ {A : Type 0} (before : A → A → Bool) (o : StrictOrder before) (t : A) where
   -- the windows that end before t
@@ -50,14 +51,13 @@ module _ {A : Type 0} (before : A → A → Bool) (o : StrictOrder before) (t : 
       none-ending xs (map-all (λ x. x .hard) (λ h. before h t ≡ false) xs (subst (All (λ h. before h t ≡ false)) (sym (least-none before o (map (λ x. x .hard) xs) e)) tt))
   points-from n ih xs l proper (Some w) e =
       let next = next-hard before o xs w e in
-      let fewer = kept-shorter (λ x. not (ripe before w x)) xs
-              (any-with (λ x p h. not-from-true (ripe before w x) (ends-ripe before o w x p h)) xs proper (next .stands)) in
+      let fewer = spares-fewer before o w xs proper e in
       cond-both (before w t) (after before w xs (serve before n t (spared before w xs))) (still before xs) (λ r. Greedy before (ending xs) (r .wakes))
       (λ soon. next-point w
           (any-kept (λ x. before (x .hard) t) (λ x. x .hard ≡ w) (λ x h. ap (λ z. before z t) h ∙ soon) xs (next .stands))
           (all-kept-by (λ x. before (x .hard) t) (λ x. before (x .hard) w ≡ false) xs (next .bounds))
           (subst (λ l. Greedy before l (serve before n t (spared before w xs) .wakes)) (unmet w xs (next .bounds))
-              (ih (spared before w xs) (omega arith) (all-kept-by (λ x. not (ripe before w x)) _ xs proper))))
+              (ih (spared before w xs) (omega arith) (spares-proper before o w xs proper))))
       (λ late. none-ending xs (all-weaker (λ x. before (x .hard) w ≡ false) (λ x. before (x .hard) t ≡ false) (λ x b. le-le before o t w (x .hard) late b) xs (next .bounds)))
 
   points : (n : ℕ) → Points n

@@ -128,21 +128,45 @@ module _ {A : Type 0} (before : A → A → Bool) (o : StrictOrder before) where
     abbrev ends : Timer A → Bool
     ends x = same before (x .hard) w
 
-    pub marks-one : Distinct xs → Proper xs → Next xs w →
-        (b : Timer A) × In xs b × (b .hard ≡ w) × (kept-by (λ f. f .mark) (wake-up before w xs) ≡ entry w m b ∷ [])
-    marks-one d proper next =
-        let final = kept-by ends xs in
+    -- the timer that carries the mark: of those whose hard time is w, the one with the lowest number
+    pub record Bearer : Type 0 where
+      pub timer : Timer A
+      pub stands : In xs timer
+      pub at-w : timer .hard ≡ w
+      pub named : m ≡ Some (timer .number)
+
+    abbrev final : List (Timer A)
+    final = kept-by ends xs
+
+    bearer-at : (n : ℕ) → m ≡ Some n → Bearer
+    bearer-at n e =
+        let low = least-lowest ltb number-order (map (λ x. x .number) final) n e in
+        let b = any-find (λ x. x .number ≡ n) final (map-any (λ x. x .number) (λ k. k ≡ n) final (low .stands)) in
+        record {
+            timer = b .0;
+            stands = in-kept ends (b .0) xs (b .1);
+            at-w = same-is before o (b .0 .hard) w (all-in (λ x. ends x ≡ true) (b .0) final (kept-by-passes ends xs) (b .1));
+            named = e ∙ ap Some (sym (b .2))
+        }
+
+    bearer-found : Next xs w → Bearer
+    bearer-found next =
         let some = any-kept ends (λ x. x .hard ≡ w) (λ x e. ap (λ h. same before h w) e ∙ same-itself before o w) xs (next .stands) in
         let low = least-some ltb number-order (λ _. Unit {0}) (map (λ x. x .number) final) (any-map (λ x. x .number) (λ _. Unit {0}) final (any-weaker (λ x e. tt) final some)) in
-        let n = low .0 in
-        let b = any-find (λ x. x .number ≡ n) final (map-any (λ x. x .number) (λ k. k ≡ n) final (least-lowest ltb number-order (map (λ x. x .number) final) n (low .1) .stands)) in
-        let i = in-kept ends (b .0) xs (b .1) in
-        let at-w = same-is before o (b .0 .hard) w (all-in (λ x. ends x ≡ true) (b .0) final (kept-by-passes ends xs) (b .1)) in
-        let awake-b = kept-in (ripe before w) (b .0) xs i (ends-ripe w (b .0) (all-in (λ x. before (x .hard) (x .soft) ≡ false) (b .0) xs proper i) at-w) in
-        let named : (x : Timer A) → names m (x .number) ≡ eqb n (x .number) = λ x. ap (λ k. names k (x .number)) (low .1) in
-        (b .0, i, at-w,
-            log-kept (λ f. f .mark) (b .0 ∷ [])
-            (only (λ x. names m (x .number)) (b .0) awake (pairwise-kept (ripe before w) _ xs d) awake-b
-                (named (b .0) ∙ eq-eqb n (b .0 .number) (sym (b .2)))
-                (λ x t. sym (eqb-true n (x .number) (sym (named x) ∙ t)) ∙ sym (b .2)))
-            (rearranged-one (b .0)))
+        bearer-at (low .0) (low .1)
+
+    bears : (b x : Timer A) → m ≡ Some (b .number) → names m (x .number) ≡ eqb (b .number) (x .number)
+    bears b x e = ap (λ k. names k (x .number)) e
+
+    -- the mark is on one entry
+    pub marks-one : Distinct xs → Proper xs → Next xs w → (b : Bearer) × (kept-by (λ f. f .mark) (wake-up before w xs) ≡ entry w m (b .timer) ∷ [])
+    marks-one d proper next = let b = bearer-found next in (b, one (b .timer) (b .stands) (b .at-w) (b .named))
+      where
+        one : (b : Timer A) → In xs b → b .hard ≡ w → m ≡ Some (b .number) → kept-by (λ f. f .mark) (wake-up before w xs) ≡ entry w m b ∷ []
+        one b i at-w named =
+            let proper-b = all-in (λ x. before (x .hard) (x .soft) ≡ false) b xs proper i in
+            log-kept (λ f. f .mark) (b ∷ [])
+            (only (λ x. names m (x .number)) b awake (pairwise-kept (ripe before w) _ xs d) (kept-in (ripe before w) b xs i (ends-ripe w b proper-b at-w))
+                (bears b b named ∙ eq-eqb (b .number) (b .number) refl)
+                (λ x t. sym (eqb-true (b .number) (x .number) (sym (bears b x named) ∙ t))))
+            (rearranged-one b)

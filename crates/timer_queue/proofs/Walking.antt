@@ -10,7 +10,7 @@ use Rattle.std.specs.declared.option.Option.{Option}
 use Rattle.std.specs.declared.option.Option.the-variants.{Some, None}
 use Rattle.std.specs.shelf.Lists.{All, kept-by}
 use Rattle.std.proofs.shelf.Elements.{all-weaker, all-append, kept-by-append, kept-by-passes, all-kept-by}
-use Rattle.std.proofs.shelf.Tests.{both-ways, cases-bool, cond-both, not-true, not-false, not-from-true, not-from-false}
+use Rattle.std.proofs.shelf.Tests.{both-ways, cases-bool, cond-both, not-true, not-false, not-from-false}
 use Rattle.slot_heaps.specs.declared.timer.Timer.{Timer}
 use Rattle.timer_queue.specs.declared.firing.Firing.{Firing}
 use Rattle.times.specs.Order.{StrictOrder}
@@ -19,11 +19,12 @@ use Rattle.timer_queue.specs.Timers.{Distinct, Inside, least-hard}
 use Rattle.timer_queue.specs.WakeUps.{Served, entry, ripe, spared, bearer, wake-up, still, after, serve-from, serve, walk}
 use Rattle.timer_queue.specs.Histories.{of}
 use Rattle.timer_queue.specs.Claims.{Meets}
-use Rattle.timer_queue.proofs.Elements.{In, all-in, all-from-in, in-itself, any-so, any-weaker, any-with, in-kept, kept-any, kept-in, none-kept, map-all, pairwise-kept, kept-shorter}
+use Rattle.timer_queue.proofs.Elements.{In, all-in, all-from-in, in-itself, any-so, any-weaker, any-with, in-kept, kept-any, kept-in, none-kept, map-all, pairwise-kept}
 use Rattle.timer_queue.proofs.Orders.{le-lt, lt-le, le-le}
 use Rattle.timer_queue.proofs.Least.{least-none}
+use Rattle.timer_queue.proofs.Going.{spares-fewer, spares-proper}
 use Rattle.timer_queue.proofs.Stabbing.{Over}
-use Rattle.timer_queue.proofs.Waking.{From, of-from, Next, next-hard, Proper, ends-ripe, logs-once, logs-none, logs-ripe, marks-one}
+use Rattle.timer_queue.proofs.Waking.{From, of-from, Next, next-hard, Proper, logs-once, logs-none, logs-ripe, marks-one}
 
 module _ {A : Type 0} (before : A → A → Bool) (o : StrictOrder before) where
   -- a is over: it is before the time t, and before each soft time of qs
@@ -129,8 +130,8 @@ module _ {A : Type 0} (before : A → A → Bool) (o : StrictOrder before) where
     walked-after : Walked t xs (after before w xs r)
     walked-after =
         let one = marks-one before o w xs d proper next in
-        let e = joined (λ f. f .mark) (entry w (bearer before w xs) (one .0) ∷ []) (marks (r .entries)) (one .3) refl in
-        let at-w = sym (one .2) in
+        let e = joined (λ f. f .mark) (entry w (bearer before w xs) (one .0 .timer) ∷ []) (marks (r .entries)) (one .1) refl in
+        let at-w = sym (one .0 .at-w) in
         record {
             part = all-weaker (In late) (In xs) (λ q i. in-kept (λ x. not (ripe before w x)) q xs i) (r .pending) (rest .part);
             distinct = rest .distinct;
@@ -158,11 +159,10 @@ module _ {A : Type 0} (before : A → A → Bool) (o : StrictOrder before) where
   walked-from n t ih xs l d proper (Some w) e =
       let next = next-hard before o xs w e in
       let late = spared before w xs in
-      let fewer = kept-shorter (λ x. not (ripe before w x)) xs
-              (any-with (λ x p h. not-from-true (ripe before w x) (ends-ripe before o w x p h)) xs proper (next .stands)) in
+      let fewer = spares-fewer before o w xs proper e in
       cond-both (before w t) (after before w xs (serve before n t late)) (still before xs) (Walked t xs)
       (λ soon. walked-after t w xs (serve before n t late) d proper next soon
-          (ih late (omega arith) (pairwise-kept (λ x. not (ripe before w x)) _ xs d) (all-kept-by (λ x. not (ripe before w x)) _ xs proper)))
+          (ih late (omega arith) (pairwise-kept (λ x. not (ripe before w x)) _ xs d) (spares-proper before o w xs proper)))
       (λ late. walked-still t xs d (all-weaker (λ x. before (x .hard) w ≡ false) (λ x. before (x .hard) t ≡ false) (λ x b. le-le before o t w (x .hard) late b) xs (next .bounds)))
 
   serve-walked : (n : ℕ) (t : A) → Walks n t

@@ -9,7 +9,7 @@ use mathlib.Core.Bool.{Bool, true, false, cond, not}
 use mathlib.Core.List.{List, [], _∷_}
 use lib.Dec.{ltb, leb}
 use lib.ListN.{length}
-use Prim.Native.Nat.{ℕ}
+use Prim.Native.Nat.{ℕ, min}
 use Rattle.std.specs.declared.option.Option.{Option}
 use Rattle.std.specs.declared.option.Option.the-variants.{Some, None}
 use Rattle.std.specs.declared.result.Result.{Result}
@@ -40,6 +40,10 @@ given b f o = cond b (Some f) o
 abbrev pub conclude : {R A : Type 0} → Option QueueFault → State A → R → State A → List (Firing A) → Outcome R A
 conclude (Some f) s r s′ es = record { answer = Err f; left = s; logged = [] }
 conclude None s r s′ es = record { answer = Ok r; left = s′; logged = es }
+
+-- how many of the slots lent are usable
+abbrev pub usable-of : ℕ → ℕ
+usable-of lent = min lent 4096
 
 -- a queue that was just started over so many usable slots, with an alarm at this clock
 abbrev pub started : {A : Type 0} → ℕ → A → State A

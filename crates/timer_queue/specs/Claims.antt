@@ -3,7 +3,7 @@
 --     No-shorter-list        a list of times that meets the window of each binding timer has at least as many times as there were wake-ups
 --     Certificate            there are as many marked entries as wake-ups, and no two of their windows share a time
 --     Nothing-else-logged    each entry is the one firing so far of a timer that was armed before and not cancelled since
---     Counted                an advance answered as many firings as it wrote entries
+--     Counted                an advance answered as many firings as it wrote entries; a refused one woke, fired and wrote nothing
 use mathlib.Core.Path.{_≡_}
 use mathlib.Core.Bool.{Bool, true, false}
 use mathlib.Core.List.{List, [], _∷_, _++_}
@@ -21,7 +21,8 @@ use Rattle.timer_queue.specs.Histories.{Course, logged, log, marked, wake-ups,
 abbrev pub Counted : {A : Type 0} → Deed A → Type 0
 Counted (armed b x) = Unit {0}
 Counted (cancelled b n) = Unit {0}
-Counted (advanced b t n fs) = n .1 ≡ length fs
+Counted (advanced true t n fs) = n .1 ≡ length fs
+Counted (advanced false t n fs) = (n .0 ≡ 0) × (n .1 ≡ 0) × (fs ≡ [])
 
 -- P holds of each event and those before it
 abbrev pub Each-event : {A : Type 0} → (List (Event A) → Event A → Type 0) → List (Event A) → List (Event A) → Type 0

@@ -4,9 +4,12 @@
 --     bearer w xs         the number that carries the mark of a wake-up at w: the lowest of those whose hard time is w
 --     entry w m x         the log entry of x, fired at w, where m carries the mark
 --     wake-up w xs        the log of a wake-up at w: an entry for each ripe timer, by soft time and then by number
---     serve n t xs        while some pending hard time is before t, a wake-up at the least one; at most n of them
---     Served              the times of the wake-ups, the log, and the timers that are still pending
---     walk t xs           the same with no bound: each wake-up fires a timer, so there are no more than timers
+--     Served              the times of some wake-ups, their log, and the timers that are still pending
+--     serve-from ..       nothing, if no hard time is before t; else a wake-up at the least one, w, and then the rest
+--     serve n t xs        while some hard time is before t, a wake-up at the least one; at most n of them
+--     walk t xs           the wake-ups of an advance to t: the same with room for as many as there are timers
+--     Walk-goes-on        that is room enough: an advance is nothing, or a wake-up and then an advance over what it spares
+use mathlib.Core.Path.{_≡_}
 use mathlib.Core.Bool.{Bool, false, cond, not}
 use mathlib.Core.List.{List, [], _∷_, _++_, map}
 use lib.Dec.{ltb, eqb}
@@ -14,7 +17,7 @@ use lib.ListN.{length}
 use Prim.Native.Nat.{ℕ, zero, suc}
 use Rattle.std.specs.declared.option.Option.{Option}
 use Rattle.std.specs.declared.option.Option.the-variants.{Some, None}
-use Rattle.std.specs.shelf.Lists.{kept-by}
+use Rattle.std.specs.shelf.Lists.{All, kept-by}
 use Rattle.slot_heaps.specs.declared.timer.Timer.{Timer}
 use Rattle.timer_queue.specs.declared.firing.Firing.{Firing}
 use Rattle.timer_queue.specs.Lists.{least, sorted}
@@ -61,3 +64,8 @@ module _ {A : Type 0} (before : A → A → Bool) where
 
   abbrev pub walk : A → List (Timer A) → Served A
   walk t xs = serve (length xs) t xs
+
+  abbrev pub Walk-goes-on : Type 0
+  Walk-goes-on =
+      (t : A) (xs : List (Timer A)) → All (λ x. before (x .hard) (x .soft) ≡ false) xs →
+      walk t xs ≡ serve-from (walk t) t xs (least-hard before xs)

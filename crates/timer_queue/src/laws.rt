@@ -5,6 +5,7 @@ ghost use Rattle.timer_queue.specs.Listed.{Calls-recorded};
 ghost use Rattle.timer_queue.specs.Readings.{Readings};
 ghost use Rattle.timer_queue.specs.Rearranging.{Order-of-listing-is-free};
 ghost use Rattle.timer_queue.specs.Trials.{Wrong-rules-refused};
+ghost use Rattle.timer_queue.specs.WakeUps.{Walk-goes-on};
 use times::Time;
 
 fn claims_hold<T: Time>()
@@ -14,6 +15,11 @@ fn claims_hold<T: Time>()
 
 fn calls_are_recorded<T: Time>()
     ensures { λ _. ⌜ Calls-recorded (T·Time .before) ⌝ }
+{
+}
+
+fn walk_goes_on<T: Time>()
+    ensures { λ _. ⌜ Walk-goes-on (T·Time .before) ⌝ }
 {
 }
 
