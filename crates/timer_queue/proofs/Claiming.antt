@@ -31,8 +31,8 @@ module _ {A : Type 0} (before : A → A → Bool) (o : StrictOrder before) (c : 
       ⊎-elim {C = Fired-once before k}
       (λ a. absurd (both-ways (before (k .timer .hard) (s .clock)) (all-in (λ p. before (p .hard) (s .clock) ≡ false) (k .timer) (s .pending) (h .sound .ahead) (a .1)) now))
       (⊎-elim {C = Fired-once before k}
-          (λ d. (d .by, ap (λ l. kept-by (of before (k .timer)) (log l)) (sym end) ∙ d .one [], d .inside))
-          (λ g. absurd (both-ways (dropped (k .timer .number) (k .later)) kept (ap (dropped (k .timer .number)) (sym end) ∙ g []))))
+      (λ d. (d .by, ap (λ l. kept-by (of before (k .timer)) (log l)) (sym end) ∙ d .one [], d .inside))
+      (λ g. absurd (both-ways (dropped (k .timer .number) (k .later)) kept (ap (dropped (k .timer .number)) (sym end) ∙ g []))))
       fate
 
   -- a list that meets each binding window meets that of each marked entry
@@ -41,24 +41,24 @@ module _ {A : Type 0} (before : A → A → Bool) (o : StrictOrder before) (c : 
   stabs times meets f m =
       any-so (Stabbed before o times f) (λ k g. g) (courses es)
       (any-with
-          (λ k meet b.
-              let passed = ap (λ x. before x (clock-after c es)) (sym (b .0 .hard)) ∙ ap (before (f .hard)) (h .now) ∙ m .0 .clock in
-              let calm = ap (undisturbed before (k .timer)) (sym (append-nil (k .later))) ∙ b .1 [] in
-              subst (λ x. Any (Inside before x (f .hard)) times) (sym (b .0 .soft))
-              (subst (λ x. Any (Inside before (k .timer .soft) x) times) (sym (b .0 .hard))
-                  (meet (and-from (before (k .timer .hard) (clock-after c es)) (undisturbed before (k .timer) (k .later)) passed calm))))
-          (courses es) meets (m .1))
+      (λ k meet b.
+      let passed = ap (λ x. before x (clock-after c es)) (sym (b .0 .hard)) ∙ ap (before (f .hard)) (h .now) ∙ m .0 .clock in
+      let calm = ap (undisturbed before (k .timer)) (sym (append-nil (k .later))) ∙ b .1 [] in
+      subst (λ x. Any (Inside before x (f .hard)) times) (sym (b .0 .soft))
+      (subst (λ x. Any (Inside before (k .timer .soft) x) times) (sym (b .0 .hard))
+      (meet (and-from (before (k .timer .hard) (clock-after c es)) (undisturbed before (k .timer) (k .later)) passed calm))))
+      (courses es) meets (m .1))
 
   claimed : Claims before c es
   claimed = record {
-      no-timer-missed = all-weaker (Fate before o s) (λ k. before (k .timer .hard) (clock-after c es) ≡ true → dropped (k .timer .number) (k .later) ≡ false → Fired-once before k)
-          fired (courses es) (h .fates);
-      no-shorter-list = λ times meets. subst (λ n. n ≤ length times) (h .counts)
-          (needs-each before o (marked es) times (h .apart) (all-weaker (Marked before o es s) (Stabbed before o times) (stabs times meets) (marked es) (h .bound)));
-      certificate = (h .counts, pairwise-weaker (Over before o) (Apart before) (over-apart before o) (marked es) (h .apart));
-      nothing-else-logged = h .logs;
-      counted = h .counted
-    }
+    no-timer-missed = all-weaker (Fate before o s) (λ k. before (k .timer .hard) (clock-after c es) ≡ true → dropped (k .timer .number) (k .later) ≡ false → Fired-once before k)
+        fired (courses es) (h .fates);
+    no-shorter-list = λ times meets. subst (λ n. n ≤ length times) (h .counts)
+        (needs-each before o (marked es) times (h .apart) (all-weaker (Marked before o es s) (Stabbed before o times) (stabs times meets) (marked es) (h .bound)));
+    certificate = (h .counts, pairwise-weaker (Over before o) (Apart before) (over-apart before o) (marked es) (h .apart));
+    nothing-else-logged = h .logs;
+    counted = h .counted;
+  }
 
 pub claims-hold : {A : Type 0} (before : A → A → Bool) → StrictOrder before → Claims-hold before
 claims-hold before o u c es s l = claimed before o c es s (lived-holds before o l)

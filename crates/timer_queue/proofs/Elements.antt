@@ -166,8 +166,8 @@ module _ {X : Type 0} (p q : X → Bool) where
       let qs = kept-by q xs in
       cond-both (q x) (x ∷ qs) qs (λ l. kept-by p l ≡ kept-by q (cond (p x) (x ∷ ps) ps))
       (λ t. cond-both (p x) (x ∷ ps) ps (λ l. cond (p x) (x ∷ kept-by p qs) (kept-by p qs) ≡ kept-by q l)
-          (λ u. cond-true (p x) (x ∷ kept-by p qs) (kept-by p qs) u ∙ ap (λ l. x ∷ l) ih ∙ sym (cond-true (q x) (x ∷ kept-by q ps) (kept-by q ps) t))
-          (λ u. cond-false (p x) (x ∷ kept-by p qs) (kept-by p qs) u ∙ ih))
+      (λ u. cond-true (p x) (x ∷ kept-by p qs) (kept-by p qs) u ∙ ap (λ l. x ∷ l) ih ∙ sym (cond-true (q x) (x ∷ kept-by q ps) (kept-by q ps) t))
+      (λ u. cond-false (p x) (x ∷ kept-by p qs) (kept-by p qs) u ∙ ih))
       (λ t. cond-both (p x) (x ∷ ps) ps (λ l. kept-by p qs ≡ kept-by q l)
-          (λ u. ih ∙ sym (cond-false (q x) (x ∷ kept-by q ps) (kept-by q ps) t))
-          (λ u. ih))
+      (λ u. ih ∙ sym (cond-false (q x) (x ∷ kept-by q ps) (kept-by q ps) t))
+      (λ u. ih))

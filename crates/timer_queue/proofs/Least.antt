@@ -30,8 +30,8 @@ module _ {X : Type 0} (lt : X → X → Bool) (o : StrictOrder lt) where
       cond-both (lt m x) m x (Lowest lt (x ∷ xs))
       (λ t. record { stands = inr (f .stands); bounds = (never-both lt o m x t, f .bounds) })
       (λ t. record {
-          stands = inl refl;
-          bounds = (o .irreflexive x, all-weaker (λ y. lt y m ≡ false) (λ y. lt y x ≡ false) (λ y h. le-le lt o x m y t h) xs (f .bounds))
+        stands = inl refl;
+        bounds = (o .irreflexive x, all-weaker (λ y. lt y m ≡ false) (λ y. lt y x ≡ false) (λ y h. le-le lt o x m y t h) xs (f .bounds));
       })
 
   found : (xs : List X) → Found xs (least lt xs)

@@ -49,7 +49,7 @@ module _ {A : Type 0} (before : A → A → Bool) (o : StrictOrder before) where
       ⊎-elim
       (λ a. ⊎-elim (λ b. first (o .transitive (p .0) (q .0) (r .0) a b)) (λ b. first (ap (before (p .0)) (sym (b .0)) ∙ a)) (lex-cases q r k))
       (λ a. ⊎-elim (λ b. first (ap (λ z. before z (r .0)) (a .0) ∙ b))
-          (λ b. lex-second p r (a .0 ∙ b .0) (number-order .transitive (p .1) (q .1) (r .1) (a .1) (b .1))) (lex-cases q r k))
+      (λ b. lex-second p r (a .0 ∙ b .0) (number-order .transitive (p .1) (q .1) (r .1) (a .1) (b .1))) (lex-cases q r k))
       (lex-cases p q h)
 
   lex-connected : (p q : A × ℕ) → lex p q ≡ false → lex q p ≡ false → p ≡ q
@@ -58,16 +58,16 @@ module _ {A : Type 0} (before : A → A → Bool) (o : StrictOrder before) where
       let b = or-parts (before (q .0) (p .0)) (same before (q .0) (p .0) && ltb (q .1) (p .1)) k in
       let e = o .connected (p .0) (q .0) (a .0) (b .0) in
       let second : (m n : A × ℕ) → m .0 ≡ n .0 → (same before (m .0) (n .0) && ltb (m .1) (n .1)) ≡ false → ltb (m .1) (n .1) ≡ false =
-              λ m n i z. ap (λ s. s && ltb (m .1) (n .1)) (sym (ap (λ x. same before x (n .0)) i ∙ same-itself before o (n .0))) ∙ z in
+      λ m n i z. ap (λ s. s && ltb (m .1) (n .1)) (sym (ap (λ x. same before x (n .0)) i ∙ same-itself before o (n .0))) ∙ z in
       ap₂ {C = A × ℕ} (λ x n. (x, n)) e (number-order .connected (p .1) (q .1) (second p q e (a .1)) (second q p (sym e) (b .1)))
 
   lex-order : StrictOrder lex
   lex-order = record {
-      irreflexive = λ p. or-from (before (p .0) (p .0)) (same before (p .0) (p .0) && ltb (p .1) (p .1)) (o .irreflexive (p .0))
-          (and-right (same before (p .0) (p .0)) (ltb (p .1) (p .1)) (number-order .irreflexive (p .1)));
-      transitive = lex-transitive;
-      connected = lex-connected
-    }
+    irreflexive = λ p. or-from (before (p .0) (p .0)) (same before (p .0) (p .0) && ltb (p .1) (p .1)) (o .irreflexive (p .0))
+        (and-right (same before (p .0) (p .0)) (ltb (p .1) (p .1)) (number-order .irreflexive (p .1)));
+    transitive = lex-transitive;
+    connected = lex-connected;
+  }
 
   abbrev key : Timer A → A × ℕ
   key x = (x .soft, x .number)
@@ -126,12 +126,16 @@ module _ {A : Type 0} (before : A → A → Bool) (o : StrictOrder before) where
 
   concluded : (f : Option QueueFault) (s : State A) (xs : List (Timer A)) (t : A) (p q : Served A) → Rearranged (s .pending) xs → Served-alike p q →
       Alike (conclude {R = ℕ × ℕ} f s (length (p .wakes), length (p .entries)) (settle before s (p .pending) t) (p .entries))
-          (conclude {R = ℕ × ℕ} f (listing s xs) (length (q .wakes), length (q .entries)) (settle before (listing s xs) (q .pending) t) (q .entries))
+      (conclude {R = ℕ × ℕ} f (listing s xs) (length (q .wakes), length (q .entries)) (settle before (listing s xs) (q .pending) t) (q .entries))
   concluded (Some f) s xs t p q r a = record { answer = refl; logged = refl; usable = refl; clock = refl; due = refl; pending = r }
   concluded None s xs t p q r a = record {
-      answer = ap₂ (λ ws es. Ok (length ws, length es)) (a .wakes) (a .entries);
-      logged = a .entries; usable = refl; clock = refl; due = least-hard-alike (a .pending); pending = a .pending
-    }
+    answer = ap₂ (λ ws es. Ok (length ws, length es)) (a .wakes) (a .entries);
+    logged = a .entries;
+    usable = refl;
+    clock = refl;
+    due = least-hard-alike (a .pending);
+    pending = a .pending;
+  }
 
 pub order-of-listing-is-free : {A : Type 0} (before : A → A → Bool) → StrictOrder before → Order-of-listing-is-free before
 order-of-listing-is-free before o s xs t room d r =

@@ -19,7 +19,7 @@ use Rattle.timer_queue.specs.WakeUps.{Served, walk}
 use Rattle.timer_queue.specs.Calls.{State, started, conclude, settle, arm-fault, cancel-fault, advance-fault}
 use Rattle.timer_queue.specs.Events.{advanced, Event, event, counts, Lived, starting, armed-next, cancelled-next, advanced-next, arm-event, cancel-event, advance-event}
 use Rattle.timer_queue.proofs.Elements.{In, all-in, all-from-in}
-use Rattle.timer_queue.proofs.Walking.{Walked, walked, Stays, Once}
+use Rattle.timer_queue.proofs.Walking.{Walked, walked, Stays, Fared}
 use Rattle.timer_queue.proofs.Invariant.{Sound, Quiet, Treated, Origin, Step, Holds}
 use Rattle.timer_queue.proofs.Keeping.{holds-more}
 use Rattle.timer_queue.proofs.Stepping.{given-none, alarm-kept, idle-step, arm-taken, cancel-taken}
@@ -34,16 +34,18 @@ module _ {A : Type 0} (before : A → A → Bool) (o : StrictOrder before) where
 
     quiet : (p : Timer A) → Walked before o t (s .pending) served → Stays before o (served .pending) (served .entries) p → Quiet before o went p
     quiet p w i = record {
-        unlogged = i .1; undropped = λ r. refl; untried = refl;
-        ahead = all-in (λ q. before (q .hard) t ≡ false) p (served .pending) (w .ahead) (i .0)
-      }
+      unlogged = i .1;
+      undropped = λ r. refl;
+      untried = refl;
+      ahead = all-in (λ q. before (q .hard) t ≡ false) p (served .pending) (w .ahead) (i .0);
+    }
 
     -- what is still pending did not fire
     left-quiet : (w : Walked before o t (s .pending) served) (q : Timer A) → In (served .pending) q → In (s .pending) q → Quiet before o went q
     left-quiet w q i j =
         ⊎-elim (quiet q w)
         (λ f. absurd (both-ways (before (q .soft) (q .soft)) (o .irreflexive (q .soft)) (all-in (λ z. before (q .soft) (z .soft) ≡ true) q (served .pending) (f .over .softs) i)))
-        (all-in (λ p. Stays before o (served .pending) (served .entries) p ⊎ Once before o t (served .pending) (served .entries) p) q (s .pending) (w .fates) j)
+        (all-in (Fared before o t (served .pending) (served .entries)) q (s .pending) (w .fates) j)
 
     advance-accepted : advance-fault before s t room ≡ None → Step before o s went (settle before s (served .pending) t)
     advance-accepted passed =
@@ -51,18 +53,25 @@ module _ {A : Type 0} (before : A → A → Bool) (o : StrictOrder before) where
         let later : State A = settle before s (served .pending) t in
         let test = given-none (before t (s .clock)) AdvancePassed _ (sym (alarm-kept before o s h _) ∙ passed) in
         record {
-            sound = record {
-                due = refl; distinct = w .distinct; ahead = w .ahead;
-                proper = all-weaker (In (s .pending)) (λ p. before (p .hard) (p .soft) ≡ false)
-                    (λ p i. all-in (λ q. before (q .hard) (q .soft) ≡ false) p (s .pending) (h .proper) i) (served .pending) (w .part)
-            };
-            now = refl; onward = test .0;
-            treated = all-weaker (λ p. Stays before o (served .pending) (served .entries) p ⊎ Once before o t (served .pending) (served .entries) p)
-                (Treated before o went later) (λ p. ⊎-elim {C = Treated before o went later p} (λ i. inl (i .0, quiet p w i)) (λ f. inr (inl f))) (s .pending) (w .fates);
-            fresh = tt;
-            origins = all-from-in (Origin before o s went) (served .pending)
-                (λ q i. let j = all-in (In (s .pending)) q (served .pending) (w .part) i in inl (j, left-quiet w q i j));
-            logs = w .logs; counts = w .counts; apart = w .apart; over = w .over; counted = refl
+          sound = record {
+            due = refl;
+            distinct = w .distinct;
+            ahead = w .ahead;
+            proper = all-weaker (In (s .pending)) (λ p. before (p .hard) (p .soft) ≡ false)
+                (λ p i. all-in (λ q. before (q .hard) (q .soft) ≡ false) p (s .pending) (h .proper) i) (served .pending) (w .part);
+          };
+          now = refl;
+          onward = test .0;
+          treated = all-weaker (Fared before o t (served .pending) (served .entries))
+              (Treated before o went later) (λ p. ⊎-elim {C = Treated before o went later p} (λ i. inl (i .0, quiet p w i)) (λ f. inr (inl f))) (s .pending) (w .fates);
+          fresh = tt;
+          origins = all-from-in (Origin before o s went) (served .pending)
+              (λ q i. let j = all-in (In (s .pending)) q (served .pending) (w .part) i in inl (j, left-quiet w q i j));
+          logs = w .logs;
+          counts = w .counts;
+          apart = w .apart;
+          over = w .over;
+          counted = refl;
         }
 
     advance-taken : (r : Option QueueFault) → advance-fault before s t room ≡ r →
@@ -75,9 +84,16 @@ module _ {A : Type 0} (before : A → A → Bool) (o : StrictOrder before) where
 
   pub lived-holds : {u : ℕ} {c : A} {es : List (Event A)} {s : State A} → Lived before u c es s → Holds before o c es s
   lived-holds starting = record {
-      sound = record { due = refl; distinct = tt; proper = tt; ahead = tt };
-      now = refl; fates = tt; owned = tt; counts = refl; apart = tt; bound = tt; logs = tt; counted = tt
-    }
+    sound = record { due = refl; distinct = tt; proper = tt; ahead = tt };
+    now = refl;
+    fates = tt;
+    owned = tt;
+    counts = refl;
+    apart = tt;
+    bound = tt;
+    logs = tt;
+    counted = tt;
+  }
   lived-holds {c = c} (armed-next {es = es} {s = s} l x) =
       let h = lived-holds l in holds-more before o s _ _ (arm-taken before o s (h .sound) x (arm-fault before s x) refl) c es h
   lived-holds {c = c} (cancelled-next {es = es} {s = s} l n) =

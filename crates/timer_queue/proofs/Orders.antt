@@ -11,10 +11,10 @@ use Rattle.timer_queue.specs.Timers.{same}
 
 pub number-order : StrictOrder ltb
 number-order = record {
-    irreflexive = λ a. le-ltb a a (omega arith);
-    transitive = λ a b c h k. lt-ltb a c (omega (arith, ltb-true a b h, ltb-true b c k));
-    connected = λ a b h k. omega (arith, ltb-false a b h, ltb-false b a k)
-  }
+  irreflexive = λ a. le-ltb a a (omega arith);
+  transitive = λ a b c h k. lt-ltb a c (omega (arith, ltb-true a b h, ltb-true b c k));
+  connected = λ a b h k. omega (arith, ltb-false a b h, ltb-false b a k);
+}
 
 module _ {A : Type 0} (before : A → A → Bool) (o : StrictOrder before) where
   pub never-both : (a b : A) → before a b ≡ true → before b a ≡ false

@@ -39,7 +39,7 @@ module _ {X K : Type 0} (key : X → K) (before : K → K → Bool) (o : StrictO
   first-both x y z zs xy xz yz =
       (ap (put by x) (put-front by y z zs yz) ∙ put-front by x y (z ∷ zs) xy) ∙
       sym (ap (put by y) (put-front by x z zs xz) ∙ put-past by y x (z ∷ zs) (never-both before o (key x) (key y) xy) ∙
-          ap (λ l. x ∷ l) (put-front by y z zs yz))
+      ap (λ l. x ∷ l) (put-front by y z zs yz))
 
   first-one : (x y z : X) (zs : List X) → by x z ≡ true → by y z ≡ false →
       put by x (put by y (z ∷ zs)) ≡ put by y (put by x (z ∷ zs))
@@ -47,7 +47,7 @@ module _ {X K : Type 0} (key : X → K) (before : K → K → Bool) (o : StrictO
       let xy = lt-le before o (key x) (key z) (key y) xz yz in
       (ap (put by x) (put-past by y z zs yz) ∙ put-front by x z (put by y zs) xz) ∙
       sym (ap (put by y) (put-front by x z zs xz) ∙ put-past by y x (z ∷ zs) (never-both before o (key x) (key y) xy) ∙
-          ap (λ l. x ∷ l) (put-past by y z zs yz))
+      ap (λ l. x ∷ l) (put-past by y z zs yz))
 
   first-end : (x y : X) → by x y ≡ true → put by x (y ∷ []) ≡ put by y (x ∷ [])
   first-end x y xy = put-front by x y [] xy ∙ sym (put-past by y x [] (never-both before o (key x) (key y) xy))
@@ -60,12 +60,12 @@ module _ {X K : Type 0} (key : X → K) (before : K → K → Bool) (o : StrictO
   put-either-order x y (z ∷ zs) d =
       ⊎-elim
       (λ xz. ⊎-elim
-          (λ yz. ⊎-elim (λ t. first-both x y z zs t xz yz) (λ f. sym (first-both y x z zs (other x y d f) yz xz)) (cases-bool (by x y)))
-          (λ yz. first-one x y z zs xz yz) (cases-bool (by y z)))
+      (λ yz. ⊎-elim (λ t. first-both x y z zs t xz yz) (λ f. sym (first-both y x z zs (other x y d f) yz xz)) (cases-bool (by x y)))
+      (λ yz. first-one x y z zs xz yz) (cases-bool (by y z)))
       (λ xz. ⊎-elim (λ yz. sym (first-one y x z zs yz xz))
-          (λ yz. ap (put by x) (put-past by y z zs yz) ∙ put-past by x z (put by y zs) xz ∙ ap (λ l. z ∷ l) (put-either-order x y zs d) ∙
-              sym (ap (put by y) (put-past by x z zs xz) ∙ put-past by y z (put by x zs) yz))
-          (cases-bool (by y z)))
+      (λ yz. ap (put by x) (put-past by y z zs yz) ∙ put-past by x z (put by y zs) xz ∙ ap (λ l. z ∷ l) (put-either-order x y zs d) ∙
+      sym (ap (put by y) (put-past by x z zs xz) ∙ put-past by y z (put by x zs) yz))
+      (cases-bool (by y z)))
       (cases-bool (by x z))
 
   pub sorted-alike : {xs ys : List X} → Rearranged xs ys → Pairwise Differ xs → sorted by xs ≡ sorted by ys

@@ -39,6 +39,6 @@ module _ {A : Type 0} (before : A → A → Bool) (o : StrictOrder before) where
       let rest = kept-by (before (f .hard)) ts in
       let fewer = kept-shorter (before (f .hard)) ts (any-weaker (λ t i. i .1) ts (s .0)) in
       let more = needs-each fs rest (p .1)
-              (all-weaker (λ g. Over f g × Stabbed ts g) (Stabbed rest) (λ g h. later-times (f .hard) ts g (h .0) (h .1)) fs
-                  (all-both (Over f) (Stabbed ts) fs (p .0) (s .1))) in
+      (all-weaker (λ g. Over f g × Stabbed ts g) (Stabbed rest) (λ g h. later-times (f .hard) ts g (h .0) (h .1)) fs
+      (all-both (Over f) (Stabbed ts) fs (p .0) (s .1))) in
       omega arith

@@ -57,21 +57,23 @@ module _ {A : Type 0} (before : A → A → Bool) (o : StrictOrder before) where
   pub idle-step : (s : State A) (d : Deed A) → Sound before o s → Idle s d → Step before o s (event d (s .clock)) s
   idle-step s d h idle =
       let quiet : (p : Timer A) → In (s .pending) p → Quiet before o (event d (s .clock)) p = λ p i. record {
-          unlogged = ap (kept-by (of before p)) (idle .unlogged);
-          undropped = idle .undropped (p .number);
-          untried = all-in (λ q. tries (q .number) d ≡ false) p (s .pending) (idle .untried) i;
-          ahead = all-in (λ q. before (q .hard) (s .clock) ≡ false) p (s .pending) (h .ahead) i
-        } in
+        unlogged = ap (kept-by (of before p)) (idle .unlogged);
+        undropped = idle .undropped (p .number);
+        untried = all-in (λ q. tries (q .number) d ≡ false) p (s .pending) (idle .untried) i;
+        ahead = all-in (λ q. before (q .hard) (s .clock) ≡ false) p (s .pending) (h .ahead) i;
+      } in
       record {
-          sound = h; now = refl; onward = o .irreflexive (s .clock);
-          treated = all-from-in (Treated before o (event d (s .clock)) s) (s .pending) (λ p i. inl (i, quiet p i));
-          fresh = subst (All (λ k. In (s .pending) (k .timer))) (sym (idle .unarmed)) tt;
-          origins = all-from-in (Origin before o s (event d (s .clock))) (s .pending) (λ p i. inl (i, quiet p i));
-          logs = subst (All (λ f. Any _ (s .pending))) (sym (idle .unlogged)) tt;
-          counts = ap (λ l. length (kept-by (λ f. f .mark) l)) (idle .unlogged) ∙ sym (idle .unwoken);
-          apart = subst (λ l. Pairwise (Over before o) (kept-by (λ f. f .mark) l)) (sym (idle .unlogged)) tt;
-          over = subst (λ l. All (λ f. Past before o (f .hard) (s .clock) (s .pending)) (kept-by (λ f. f .mark) l)) (sym (idle .unlogged)) tt;
-          counted = idle .counted
+        sound = h;
+        now = refl;
+        onward = o .irreflexive (s .clock);
+        treated = all-from-in (Treated before o (event d (s .clock)) s) (s .pending) (λ p i. inl (i, quiet p i));
+        fresh = subst (All (λ k. In (s .pending) (k .timer))) (sym (idle .unarmed)) tt;
+        origins = all-from-in (Origin before o s (event d (s .clock))) (s .pending) (λ p i. inl (i, quiet p i));
+        logs = subst (All (λ f. Any _ (s .pending))) (sym (idle .unlogged)) tt;
+        counts = ap (λ l. length (kept-by (λ f. f .mark) l)) (idle .unlogged) ∙ sym (idle .unwoken);
+        apart = subst (λ l. Pairwise (Over before o) (kept-by (λ f. f .mark) l)) (sym (idle .unlogged)) tt;
+        over = subst (λ l. All (λ f. Past before o (f .hard) (s .clock) (s .pending)) (kept-by (λ f. f .mark) l)) (sym (idle .unlogged)) tt;
+        counted = idle .counted;
       }
 
   module _ (s : State A) (h : Sound before o s) where
@@ -100,32 +102,38 @@ module _ {A : Type 0} (before : A → A → Bool) (o : StrictOrder before) where
 
       arm-quiet : (p : Timer A) → In (s .pending) p → Quiet before o armed-event p
       arm-quiet p i = record {
-          unlogged = refl;
-          undropped = λ r. ap (λ b. not b && r) (all-in (λ q. eqb (x .number) (q .number) ≡ false) p (s .pending) others i);
-          untried = refl;
-          ahead = all-in (λ q. before (q .hard) (s .clock) ≡ false) p (s .pending) (h .ahead) i
-        }
+        unlogged = refl;
+        undropped = λ r. ap (λ b. not b && r) (all-in (λ q. eqb (x .number) (q .number) ≡ false) p (s .pending) others i);
+        untried = refl;
+        ahead = all-in (λ q. before (q .hard) (s .clock) ≡ false) p (s .pending) (h .ahead) i;
+      }
 
       arm-sound : Sound before o (settle before s holding (s .clock))
       arm-sound =
           let r = put-rearranged by-number x (s .pending) in
           record {
-              due = refl;
-              distinct = pairwise-rearranged (λ p q. eqb (p .number) (q .number) ≡ false) (λ p q. eqb-turn (p .number) (q .number)) r (others, h .distinct);
-              proper = all-rearranged (λ p. before (p .hard) (p .soft) ≡ false) r (tests .0, h .proper);
-              ahead = all-rearranged (λ p. before (p .hard) (s .clock) ≡ false) r (le-le before o (s .clock) (x .soft) (x .hard) (tests .1) (tests .0), h .ahead)
+            due = refl;
+            distinct = pairwise-rearranged (λ p q. eqb (p .number) (q .number) ≡ false) (λ p q. eqb-turn (p .number) (q .number)) r (others, h .distinct);
+            proper = all-rearranged (λ p. before (p .hard) (p .soft) ≡ false) r (tests .0, h .proper);
+            ahead = all-rearranged (λ p. before (p .hard) (s .clock) ≡ false) r (le-le before o (s .clock) (x .soft) (x .hard) (tests .1) (tests .0), h .ahead);
           }
 
       arm-accepted : Step before o s armed-event (settle before s holding (s .clock))
       arm-accepted =
           let r = put-rearranged by-number x (s .pending) in
           record {
-              sound = arm-sound; now = refl; onward = o .irreflexive (s .clock);
-              treated = all-from-in (Treated before o armed-event (settle before s holding (s .clock))) (s .pending) (λ p i. inl (in-rearranged p r (inr i), arm-quiet p i));
-              fresh = (in-rearranged x r (inl refl), tt);
-              origins = all-rearranged (Origin before o s armed-event) r
-                  (inr (inl refl, tests .1), all-from-in (Origin before o s armed-event) (s .pending) (λ p i. inl (i, arm-quiet p i)));
-              logs = tt; counts = refl; apart = tt; over = tt; counted = tt
+            sound = arm-sound;
+            now = refl;
+            onward = o .irreflexive (s .clock);
+            treated = all-from-in (Treated before o armed-event (settle before s holding (s .clock))) (s .pending) (λ p i. inl (in-rearranged p r (inr i), arm-quiet p i));
+            fresh = (in-rearranged x r (inl refl), tt);
+            origins = all-rearranged (Origin before o s armed-event) r
+                (inr (inl refl, tests .1), all-from-in (Origin before o s armed-event) (s .pending) (λ p i. inl (i, arm-quiet p i)));
+            logs = tt;
+            counts = refl;
+            apart = tt;
+            over = tt;
+            counted = tt;
           }
 
     pub arm-taken : (x : Timer A) (r : Option QueueFault) → arm-fault before s x ≡ r →
@@ -145,27 +153,36 @@ module _ {A : Type 0} (before : A → A → Bool) (o : StrictOrder before) where
 
       cancel-quiet : (p : Timer A) → In (s .pending) p → numbered n p ≡ false → Quiet before o cancel-event p
       cancel-quiet p i f = record {
-          unlogged = refl; undropped = λ r. ap (λ b. b || r) f; untried = f;
-          ahead = all-in (λ q. before (q .hard) (s .clock) ≡ false) p (s .pending) (h .ahead) i
-        }
+        unlogged = refl;
+        undropped = λ r. ap (λ b. b || r) f;
+        untried = f;
+        ahead = all-in (λ q. before (q .hard) (s .clock) ≡ false) p (s .pending) (h .ahead) i;
+      }
 
       cancel-accepted : Step before o s cancel-event (settle before s (kept-by other (s .pending)) (s .clock))
       cancel-accepted =
           let ps = s .pending in
           record {
-              sound = record {
-                  due = refl; distinct = pairwise-kept other _ ps (h .distinct);
-                  proper = all-kept-by other _ ps (h .proper); ahead = all-kept-by other _ ps (h .ahead)
-              };
-              now = refl; onward = o .irreflexive (s .clock);
-              treated = all-from-in (Treated before o cancel-event (settle before s (kept-by other ps) (s .clock))) ps
-                  (λ p i. ⊎-elim {C = Treated before o cancel-event (settle before s (kept-by other ps) (s .clock)) p}
-                      (λ t. inr (inr (record { unlogged = refl; drops = λ r. ap (λ b. b || r) t })))
-                      (λ f. inl (kept-in other p ps i (not-from-false (numbered n p) f), cancel-quiet p i f)) (cases-bool (numbered n p)));
-              fresh = tt;
-              origins = all-from-in (Origin before o s cancel-event) (kept-by other ps)
-                  (λ p i. inl (in-kept other p ps i, cancel-quiet p (in-kept other p ps i) (not-true (numbered n p) (all-in (λ q. other q ≡ true) p (kept-by other ps) (kept-by-passes other ps) i))));
-              logs = tt; counts = refl; apart = tt; over = tt; counted = tt
+            sound = record {
+              due = refl;
+              distinct = pairwise-kept other _ ps (h .distinct);
+              proper = all-kept-by other _ ps (h .proper);
+              ahead = all-kept-by other _ ps (h .ahead);
+            };
+            now = refl;
+            onward = o .irreflexive (s .clock);
+            treated = all-from-in (Treated before o cancel-event (settle before s (kept-by other ps) (s .clock))) ps
+                (λ p i. ⊎-elim {C = Treated before o cancel-event (settle before s (kept-by other ps) (s .clock)) p}
+                (λ t. inr (inr (record { unlogged = refl; drops = λ r. ap (λ b. b || r) t })))
+                (λ f. inl (kept-in other p ps i (not-from-false (numbered n p) f), cancel-quiet p i f)) (cases-bool (numbered n p)));
+            fresh = tt;
+            origins = all-from-in (Origin before o s cancel-event) (kept-by other ps)
+                (λ p i. inl (in-kept other p ps i, cancel-quiet p (in-kept other p ps i) (not-true (numbered n p) (all-in (λ q. other q ≡ true) p (kept-by other ps) (kept-by-passes other ps) i))));
+            logs = tt;
+            counts = refl;
+            apart = tt;
+            over = tt;
+            counted = tt;
           }
 
       -- a cancel that was refused is of a number that is not pending
@@ -180,6 +197,10 @@ module _ {A : Type 0} (before : A → A → Bool) (o : StrictOrder before) where
       cancel-taken (Some f) e =
           idle-step s (cancelled false n) h
           (record {
-              unlogged = refl; unwoken = refl; unarmed = refl; undropped = λ m r. refl;
-              untried = none-passes (numbered n) (s .pending) (cancel-refused f e); counted = tt
+            unlogged = refl;
+            unwoken = refl;
+            unarmed = refl;
+            undropped = λ m r. refl;
+            untried = none-passes (numbered n) (s .pending) (cancel-refused f e);
+            counted = tt;
           })

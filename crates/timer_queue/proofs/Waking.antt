@@ -36,8 +36,8 @@ module _ {A : Type 0} where
   only q p [] d i t u = elim i [ ]
   only q p (x ∷ xs) d (inl e) t u =
       let none : All (λ y. q y ≡ false) xs = all-weaker (λ y. eqb (x .number) (y .number) ≡ false) (λ y. q y ≡ false)
-              (λ y n. ⊎-elim (λ k. absurd (both-ways (eqb (x .number) (y .number)) n (eq-eqb (x .number) (y .number) (ap (λ z. z .number) e ∙ sym (u y k))))) (λ k. k) (cases-bool (q y)))
-              xs (d .0) in
+      (λ y n. ⊎-elim (λ k. absurd (both-ways (eqb (x .number) (y .number)) n (eq-eqb (x .number) (y .number) (ap (λ z. z .number) e ∙ sym (u y k))))) (λ k. k) (cases-bool (q y)))
+      xs (d .0) in
       cond-true (q x) (x ∷ kept-by q xs) (kept-by q xs) (ap q e ∙ t) ∙ ap (λ l. x ∷ l) (none-kept q xs none) ∙ ap (λ y. y ∷ []) e
   only q p (x ∷ xs) d (inr i) t u =
       let n = all-in (λ y. eqb (x .number) (y .number) ≡ false) p xs (d .0) i in
@@ -50,17 +50,17 @@ module _ {A : Type 0} (before : A → A → Bool) (o : StrictOrder before) where
       let h = and-parts (eqb (f .number) (x .number)) (same before (f .soft) (x .soft) && same before (f .hard) (x .hard)) t in
       let k = and-parts (same before (f .soft) (x .soft)) (same before (f .hard) (x .hard)) (h .1) in
       record {
-          number = eqb-true (f .number) (x .number) (h .0);
-          soft = same-is before o (f .soft) (x .soft) (k .0);
-          hard = same-is before o (f .hard) (x .hard) (k .1)
+        number = eqb-true (f .number) (x .number) (h .0);
+        soft = same-is before o (f .soft) (x .soft) (k .0);
+        hard = same-is before o (f .hard) (x .hard) (k .1);
       }
 
   pub from-of : (x : Timer A) (f : Firing A) → From x f → of before x f ≡ true
   from-of x f h =
       and-from (eqb (f .number) (x .number)) (same before (f .soft) (x .soft) && same before (f .hard) (x .hard)) (eq-eqb (f .number) (x .number) (h .number))
       (and-from (same before (f .soft) (x .soft)) (same before (f .hard) (x .hard))
-          (ap (λ s. same before s (x .soft)) (h .soft) ∙ same-itself before o (x .soft))
-          (ap (λ s. same before s (x .hard)) (h .hard) ∙ same-itself before o (x .hard)))
+      (ap (λ s. same before s (x .soft)) (h .soft) ∙ same-itself before o (x .soft))
+      (ap (λ s. same before s (x .hard)) (h .hard) ∙ same-itself before o (x .hard)))
 
   -- w is the least hard time
   pub record Next (xs : List (Timer A)) (w : A) : Type 0 where
@@ -71,8 +71,8 @@ module _ {A : Type 0} (before : A → A → Bool) (o : StrictOrder before) where
   next-hard xs w e =
       let l = least-lowest before o (map (λ x. x .hard) xs) w e in
       record {
-          stands = map-any (λ x. x .hard) (λ h. h ≡ w) xs (l .stands);
-          bounds = map-all (λ x. x .hard) (λ h. before h w ≡ false) xs (l .bounds)
+        stands = map-any (λ x. x .hard) (λ h. h ≡ w) xs (l .stands);
+        bounds = map-all (λ x. x .hard) (λ h. before h w ≡ false) xs (l .bounds);
       }
 
   -- no soft time is after its hard time
@@ -104,17 +104,17 @@ module _ {A : Type 0} (before : A → A → Bool) (o : StrictOrder before) where
     logs-once p d i t =
         log-kept (of before p) (p ∷ [])
         (only (λ x. of before p (entry w m x)) p awake (pairwise-kept (ripe before w) _ xs d) (kept-in (ripe before w) p xs i t) (from-of p (entry w m p) (itself p))
-            (λ x h. of-from p (entry w m x) h .number))
+        (λ x h. of-from p (entry w m x) h .number))
         (rearranged-one p)
 
     pub logs-none : (p : Timer A) → ripe before w p ≡ false → kept-by (of before p) (wake-up before w xs) ≡ []
     logs-none p f =
         log-kept (of before p) []
         (none-kept (λ x. of before p (entry w m x)) awake
-            (all-weaker (λ x. ripe before w x ≡ true) (λ x. of before p (entry w m x) ≡ false)
-                (λ x t. ⊎-elim (λ h. absurd (both-ways (ripe before w p) f (ap (λ s. not (before w s)) (sym (of-from p (entry w m x) h .soft)) ∙ t))) (λ h. h)
-                    (cases-bool (of before p (entry w m x))))
-                awake (kept-by-passes (ripe before w) xs)))
+        (all-weaker (λ x. ripe before w x ≡ true) (λ x. of before p (entry w m x) ≡ false)
+        (λ x t. ⊎-elim (λ h. absurd (both-ways (ripe before w p) f (ap (λ s. not (before w s)) (sym (of-from p (entry w m x) h .soft)) ∙ t))) (λ h. h)
+        (cases-bool (of before p (entry w m x))))
+        awake (kept-by-passes (ripe before w) xs)))
         (rearranged-none)
 
     pub logs-ripe : All (λ f. Any (λ p. From p f) xs) (wake-up before w xs)
@@ -123,7 +123,7 @@ module _ {A : Type 0} (before : A → A → Bool) (o : StrictOrder before) where
         let Q : Timer A → Type 0 = λ x. P (entry w m x) in
         all-map P (entry w m) (sorted (by-soft before) awake)
         (all-rearranged Q (sorted-rearranged (by-soft before) awake)
-            (all-from-in Q awake (λ x i. any-at (λ p. From p (entry w m x)) x xs (in-kept (ripe before w) x xs i) (itself x))))
+        (all-from-in Q awake (λ x i. any-at (λ p. From p (entry w m x)) x xs (in-kept (ripe before w) x xs i) (itself x))))
 
     abbrev ends : Timer A → Bool
     ends x = same before (x .hard) w
@@ -143,10 +143,10 @@ module _ {A : Type 0} (before : A → A → Bool) (o : StrictOrder before) where
         let low = least-lowest ltb number-order (map (λ x. x .number) final) n e in
         let b = any-find (λ x. x .number ≡ n) final (map-any (λ x. x .number) (λ k. k ≡ n) final (low .stands)) in
         record {
-            timer = b .0;
-            stands = in-kept ends (b .0) xs (b .1);
-            at-w = same-is before o (b .0 .hard) w (all-in (λ x. ends x ≡ true) (b .0) final (kept-by-passes ends xs) (b .1));
-            named = e ∙ ap Some (sym (b .2))
+          timer = b .0;
+          stands = in-kept ends (b .0) xs (b .1);
+          at-w = same-is before o (b .0 .hard) w (all-in (λ x. ends x ≡ true) (b .0) final (kept-by-passes ends xs) (b .1));
+          named = e ∙ ap Some (sym (b .2));
         }
 
     bearer-found : Next xs w → Bearer
@@ -167,6 +167,6 @@ module _ {A : Type 0} (before : A → A → Bool) (o : StrictOrder before) where
             let proper-b = all-in (λ x. before (x .hard) (x .soft) ≡ false) b xs proper i in
             log-kept (λ f. f .mark) (b ∷ [])
             (only (λ x. names m (x .number)) b awake (pairwise-kept (ripe before w) _ xs d) (kept-in (ripe before w) b xs i (ends-ripe w b proper-b at-w))
-                (bears b b named ∙ eq-eqb (b .number) (b .number) refl)
-                (λ x t. sym (eqb-true (b .number) (x .number) (sym (bears b x named) ∙ t))))
+            (bears b b named ∙ eq-eqb (b .number) (b .number) refl)
+            (λ x t. sym (eqb-true (b .number) (x .number) (sym (bears b x named) ∙ t))))
             (rearranged-one b)

@@ -1,30 +1,26 @@
 -- The wake-ups of an advance, one after the other.
 use mathlib.Core.Path.{_≡_, refl, sym, ap, subst, _∙_}
-use mathlib.Core.Bool.{Bool, true, false, not, cond}
-use mathlib.Core.List.{List, [], _∷_, _++_, map}
+use mathlib.Core.Bool.{Bool, true, false, not}
+use mathlib.Core.List.{List, [], _∷_, _++_}
 use mathlib.Core.Logic.{_⊎_, inl, inr, ⊎-elim}
 use lib.ListN.{length}
-use Prim.Native.Nat.{ℕ, zero, suc, _≤_, _<_, _+_}
-use native.Mathlib.Omega.{arith}
-use Rattle.std.specs.declared.option.Option.{Option}
-use Rattle.std.specs.declared.option.Option.the-variants.{Some, None}
+use Prim.Native.Nat.{suc}
 use Rattle.std.specs.shelf.Lists.{All, kept-by}
 use Rattle.std.proofs.shelf.Elements.{all-weaker, all-append, kept-by-append, kept-by-passes, all-kept-by}
-use Rattle.std.proofs.shelf.Tests.{both-ways, cases-bool, cond-both, not-true, not-false, not-from-false}
+use Rattle.std.proofs.shelf.Tests.{both-ways, cases-bool, not-true, not-false, not-from-false}
 use Rattle.slot_heaps.specs.declared.timer.Timer.{Timer}
 use Rattle.timer_queue.specs.declared.firing.Firing.{Firing}
 use Rattle.times.specs.Order.{StrictOrder}
 use Rattle.timer_queue.specs.Lists.{Any, Pairwise}
-use Rattle.timer_queue.specs.Timers.{Distinct, Inside, least-hard}
-use Rattle.timer_queue.specs.WakeUps.{Served, entry, ripe, spared, bearer, wake-up, still, after, serve-from, serve, walk}
+use Rattle.timer_queue.specs.Timers.{Distinct}
+use Rattle.timer_queue.specs.WakeUps.{Served, entry, ripe, spared, bearer, wake-up, still, after, walk}
 use Rattle.timer_queue.specs.Histories.{of}
 use Rattle.timer_queue.specs.Claims.{Meets}
-use Rattle.timer_queue.proofs.Elements.{In, all-in, all-from-in, in-itself, any-so, any-weaker, any-with, in-kept, kept-any, kept-in, none-kept, map-all, pairwise-kept}
-use Rattle.timer_queue.proofs.Orders.{le-lt, lt-le, le-le}
-use Rattle.timer_queue.proofs.Least.{least-none}
-use Rattle.timer_queue.proofs.Going.{spares-fewer, spares-proper}
+use Rattle.timer_queue.proofs.Elements.{In, all-in, all-from-in, in-itself, any-so, any-weaker, any-with, in-kept, kept-any, kept-in, none-kept, pairwise-kept}
+use Rattle.timer_queue.proofs.Orders.{le-lt}
+use Rattle.timer_queue.proofs.Going.{along-walk}
 use Rattle.timer_queue.proofs.Stabbing.{Over}
-use Rattle.timer_queue.proofs.Waking.{From, of-from, Next, next-hard, Proper, logs-once, logs-none, logs-ripe, marks-one}
+use Rattle.timer_queue.proofs.Waking.{From, of-from, Next, Proper, logs-once, logs-none, logs-ripe, marks-one}
 
 module _ {A : Type 0} (before : A → A → Bool) (o : StrictOrder before) where
   -- a is over: it is before the time t, and before each soft time of qs
@@ -47,9 +43,9 @@ module _ {A : Type 0} (before : A → A → Bool) (o : StrictOrder before) where
   logs-not p qs fs l g =
       none-kept (of before p) fs
       (all-weaker (λ f. before (p .soft) (f .soft) ≡ true) (λ f. of before p f ≡ false)
-          (λ f b. ⊎-elim (λ t. absurd (both-ways (before (p .soft) (p .soft)) (o .irreflexive (p .soft)) (subst (λ s. before (p .soft) s ≡ true) (of-from before o p f t .soft) b)))
-              (λ e. e) (cases-bool (of before p f)))
-          fs (logs-after (p .soft) qs fs l g))
+      (λ f b. ⊎-elim (λ t. absurd (both-ways (before (p .soft) (p .soft)) (o .irreflexive (p .soft)) (subst (λ s. before (p .soft) s ≡ true) (of-from before o p f t .soft) b)))
+      (λ e. e) (cases-bool (of before p f)))
+      fs (logs-after (p .soft) qs fs l g))
 
   abbrev pub marks : List (Firing A) → List (Firing A)
   marks = kept-by (λ f. f .mark)
@@ -64,23 +60,31 @@ module _ {A : Type 0} (before : A → A → Bool) (o : StrictOrder before) where
   abbrev pub Stays : List (Timer A) → List (Firing A) → Timer A → Type 0
   Stays qs fs p = In qs p × (kept-by (of before p) fs ≡ [])
 
+  abbrev pub Fared : A → List (Timer A) → List (Firing A) → Timer A → Type 0
+  Fared t qs fs p = Stays qs fs p ⊎ Once t qs fs p
+
   -- what an advance to t makes of the pending timers xs
   pub record Walked (t : A) (xs : List (Timer A)) (r : Served A) : Type 0 where
     pub part : All (In xs) (r .pending)
     pub distinct : Distinct (r .pending)
     pub ahead : All (λ q. before (q .hard) t ≡ false) (r .pending)
     pub logs : Logs xs (r .entries)
-    pub fates : All (λ p. Stays (r .pending) (r .entries) p ⊎ Once t (r .pending) (r .entries) p) xs
+    pub fates : All (Fared t (r .pending) (r .entries)) xs
     pub counts : length (marks (r .entries)) ≡ length (r .wakes)
     pub apart : Pairwise (Over before o) (marks (r .entries))
     pub over : All (λ f. Past (f .hard) t (r .pending)) (marks (r .entries))
 
   walked-still : (t : A) (xs : List (Timer A)) → Distinct xs → All (λ q. before (q .hard) t ≡ false) xs → Walked t xs (still before xs)
   walked-still t xs d a = record {
-      part = in-itself xs; distinct = d; ahead = a; logs = tt;
-      fates = all-weaker (In xs) (λ p. Stays xs [] p ⊎ Once t xs [] p) (λ p i. inl (i, refl)) xs (in-itself xs);
-      counts = refl; apart = tt; over = tt
-    }
+    part = in-itself xs;
+    distinct = d;
+    ahead = a;
+    logs = tt;
+    fates = all-weaker (In xs) (Fared t xs []) (λ p i. inl (i, refl)) xs (in-itself xs);
+    counts = refl;
+    apart = tt;
+    over = tt;
+  }
 
   module _ (t w : A) (xs : List (Timer A)) (r : Served A) (d : Distinct xs) (proper : Proper before o xs) (next : Next before o xs w)
       (soon : before w t ≡ true) (rest : Walked t (spared before w xs) r) where
@@ -95,10 +99,10 @@ module _ {A : Type 0} (before : A → A → Bool) (o : StrictOrder before) where
     -- a time that is not after w is over
     over-now : (a : A) → before w a ≡ false → Past a t (r .pending)
     over-now a h = record {
-        clock = le-lt before o a w t h soon;
-        softs = all-weaker (In late) (λ q. before a (q .soft) ≡ true)
-            (λ q i. le-lt before o a w (q .soft) h (all-in (λ z. before w (z .soft) ≡ true) q late late-softs i)) (r .pending) (rest .part)
-      }
+      clock = le-lt before o a w t h soon;
+      softs = all-weaker (In late) (λ q. before a (q .soft) ≡ true)
+          (λ q i. le-lt before o a w (q .soft) h (all-in (λ z. before w (z .soft) ≡ true) q late late-softs i)) (r .pending) (rest .part);
+    }
 
     joined : (g : Firing A → Bool) (us vs : List (Firing A)) → kept-by g (wake-up before w xs) ≡ us → kept-by g (r .entries) ≡ vs →
         kept-by g (wake-up before w xs ++ r .entries) ≡ us ++ vs
@@ -108,24 +112,24 @@ module _ {A : Type 0} (before : A → A → Bool) (o : StrictOrder before) where
     fires p i h =
         let soft = not-true (before w (p .soft)) h in
         record {
-            by = entry w (bearer before w xs) p;
-            one = joined (of before p) (entry w (bearer before w xs) p ∷ []) [] (logs-once before o w xs p d i h)
-                (logs-not p late (r .entries)
-                    (all-weaker (λ q. before w (q .soft) ≡ true) (λ q. before (p .soft) (q .soft) ≡ true) (λ q l. le-lt before o (p .soft) w (q .soft) soft l) late late-softs)
-                    (rest .logs));
-            inside = (soft, all-in (λ x. before (x .hard) w ≡ false) p xs (next .bounds) i);
-            over = over-now (p .soft) soft
+          by = entry w (bearer before w xs) p;
+          one = joined (of before p) (entry w (bearer before w xs) p ∷ []) [] (logs-once before o w xs p d i h)
+              (logs-not p late (r .entries)
+              (all-weaker (λ q. before w (q .soft) ≡ true) (λ q. before (p .soft) (q .soft) ≡ true) (λ q l. le-lt before o (p .soft) w (q .soft) soft l) late late-softs)
+              (rest .logs));
+          inside = (soft, all-in (λ x. before (x .hard) w ≡ false) p xs (next .bounds) i);
+          over = over-now (p .soft) soft;
         }
 
     waits : (p : Timer A) → In xs p → ripe before w p ≡ false →
-        Stays (r .pending) (after before w xs r .entries) p ⊎ Once t (r .pending) (after before w xs r .entries) p
+        Fared t (r .pending) (after before w xs r .entries) p
     waits p i h =
         let none = logs-none before o w xs p h in
-        ⊎-elim {C = Stays (r .pending) (after before w xs r .entries) p ⊎ Once t (r .pending) (after before w xs r .entries) p}
+        ⊎-elim {C = Fared t (r .pending) (after before w xs r .entries) p}
         (λ s. inl (s .0, joined (of before p) [] [] none (s .1)))
         (λ s. inr (record { by = s .by; one = joined (of before p) [] (s .by ∷ []) none (s .one); inside = s .inside; over = s .over }))
-        (all-in (λ q. Stays (r .pending) (r .entries) q ⊎ Once t (r .pending) (r .entries) q) p late (rest .fates)
-            (kept-in (λ q. not (ripe before w q)) p xs i (not-from-false (ripe before w p) h)))
+        (all-in (Fared t (r .pending) (r .entries)) p late (rest .fates)
+        (kept-in (λ q. not (ripe before w q)) p xs i (not-from-false (ripe before w p) h)))
 
     walked-after : Walked t xs (after before w xs r)
     walked-after =
@@ -133,42 +137,25 @@ module _ {A : Type 0} (before : A → A → Bool) (o : StrictOrder before) where
         let e = joined (λ f. f .mark) (entry w (bearer before w xs) (one .0 .timer) ∷ []) (marks (r .entries)) (one .1) refl in
         let at-w = sym (one .0 .at-w) in
         record {
-            part = all-weaker (In late) (In xs) (λ q i. in-kept (λ x. not (ripe before w x)) q xs i) (r .pending) (rest .part);
-            distinct = rest .distinct;
-            ahead = rest .ahead;
-            logs = all-append (λ f. Any (λ q. From q f) xs) (wake-up before w xs) (r .entries) (logs-ripe before o w xs)
-                (all-weaker (λ f. Any (λ q. From q f) late) (λ f. Any (λ q. From q f) xs) (λ f i. kept-any (λ x. not (ripe before w x)) (λ q. From q f) xs i) (r .entries) (rest .logs));
-            fates = all-from-in (λ p. Stays (r .pending) (after before w xs r .entries) p ⊎ Once t (r .pending) (after before w xs r .entries) p) xs
-                (λ p i. ⊎-elim {C = Stays (r .pending) (after before w xs r .entries) p ⊎ Once t (r .pending) (after before w xs r .entries) p}
-                    (λ h. inr (fires p i h)) (λ h. waits p i h) (cases-bool (ripe before w p)));
-            counts = ap length e ∙ ap suc (rest .counts);
-            apart = subst (Pairwise (Over before o)) (sym e)
-                (subst (λ h. All (λ g. before h (g .soft) ≡ true) (marks (r .entries))) at-w
-                    (all-kept-by (λ f. f .mark) (λ g. before w (g .soft) ≡ true) (r .entries) (logs-after w late (r .entries) late-softs (rest .logs))), rest .apart);
-            over = subst (All (λ f. Past (f .hard) t (r .pending))) (sym e)
-                (subst (λ h. Past h t (r .pending)) at-w (over-now w (o .irreflexive w)), rest .over)
+          part = all-weaker (In late) (In xs) (λ q i. in-kept (λ x. not (ripe before w x)) q xs i) (r .pending) (rest .part);
+          distinct = rest .distinct;
+          ahead = rest .ahead;
+          logs = all-append (λ f. Any (λ q. From q f) xs) (wake-up before w xs) (r .entries) (logs-ripe before o w xs)
+              (all-weaker (λ f. Any (λ q. From q f) late) (λ f. Any (λ q. From q f) xs) (λ f i. kept-any (λ x. not (ripe before w x)) (λ q. From q f) xs i) (r .entries) (rest .logs));
+          fates = all-from-in (Fared t (r .pending) (after before w xs r .entries)) xs
+              (λ p i. ⊎-elim {C = Fared t (r .pending) (after before w xs r .entries) p}
+              (λ h. inr (fires p i h)) (λ h. waits p i h) (cases-bool (ripe before w p)));
+          counts = ap length e ∙ ap suc (rest .counts);
+          apart = subst (Pairwise (Over before o)) (sym e) (
+            subst (λ h. All (λ g. before h (g .soft) ≡ true) (marks (r .entries))) at-w
+                (all-kept-by (λ f. f .mark) (λ g. before w (g .soft) ≡ true) (r .entries) (logs-after w late (r .entries) late-softs (rest .logs))),
+            rest .apart,
+          );
+          over = subst (All (λ f. Past (f .hard) t (r .pending))) (sym e)
+              (subst (λ h. Past h t (r .pending)) at-w (over-now w (o .irreflexive w)), rest .over);
         }
 
-  abbrev Walks : ℕ → A → Type 0
-  Walks n t = (xs : List (Timer A)) → length xs ≤ n → Distinct xs → Proper before o xs → Walked t xs (serve before n t xs)
-
-  walked-from : (n : ℕ) (t : A) → Walks n t → (xs : List (Timer A)) → length xs ≤ suc n → Distinct xs → Proper before o xs →
-      (h : Option A) → least-hard before xs ≡ h → Walked t xs (serve-from before (serve before n t) t xs h)
-  walked-from n t ih xs l d proper None e =
-      walked-still t xs d (map-all (λ x. x .hard) (λ h. before h t ≡ false) xs (subst (All (λ h. before h t ≡ false)) (sym (least-none before o (map (λ x. x .hard) xs) e)) tt))
-  walked-from n t ih xs l d proper (Some w) e =
-      let next = next-hard before o xs w e in
-      let late = spared before w xs in
-      let fewer = spares-fewer before o w xs proper e in
-      cond-both (before w t) (after before w xs (serve before n t late)) (still before xs) (Walked t xs)
-      (λ soon. walked-after t w xs (serve before n t late) d proper next soon
-          (ih late (omega arith) (pairwise-kept (λ x. not (ripe before w x)) _ xs d) (spares-proper before o w xs proper)))
-      (λ late. walked-still t xs d (all-weaker (λ x. before (x .hard) w ≡ false) (λ x. before (x .hard) t ≡ false) (λ x b. le-le before o t w (x .hard) late b) xs (next .bounds)))
-
-  serve-walked : (n : ℕ) (t : A) → Walks n t
-  serve-walked zero t [] l d proper = walked-still t [] tt tt
-  serve-walked zero t (x ∷ xs) l d proper = absurd (omega arith)
-  serve-walked (suc n) t xs l d proper = walked-from n t (serve-walked n t) xs l d proper (least-hard before xs) refl
-
   pub walked : (t : A) (xs : List (Timer A)) → Distinct xs → Proper before o xs → Walked t xs (walk before t xs)
-  walked t xs d proper = serve-walked (length xs) t xs (omega arith) d proper
+  walked t xs d proper =
+      along-walk before o t (λ ys r. Distinct ys → Walked t ys r) (λ ys late e. walked-still t ys e late)
+      (λ w ys r proper next soon rest e. walked-after t w ys r e proper next soon (rest (pairwise-kept (λ x. not (ripe before w x)) _ ys e))) xs proper d
