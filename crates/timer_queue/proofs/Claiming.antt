@@ -1,26 +1,24 @@
 -- The claims follow from the invariant.
-use mathlib.Core.Path.{_≡_, refl, sym, ap, subst, _∙_}
-use mathlib.Core.Bool.{Bool, true, false, _&&_}
-use mathlib.Core.List.{List, [], _∷_, append-nil}
-use mathlib.Core.Logic.{_⊎_, ⊎-elim}
+use mathlib.Core.Path.{_≡_, sym, ap, subst, _∙_}
+use mathlib.Core.Bool.{Bool, true, false}
+use mathlib.Core.List.{List, [], append-nil}
+use mathlib.Core.Logic.{⊎-elim}
 use lib.ListN.{length}
-use Prim.Native.Nat.{ℕ, _≤_}
-use native.Mathlib.Omega.{arith}
+use Prim.Native.Nat.{_≤_}
 use Rattle.std.specs.shelf.Lists.{All, kept-by}
 use Rattle.std.proofs.shelf.Elements.{all-weaker}
 use Rattle.std.proofs.shelf.Tests.{both-ways, and-from}
 use Rattle.timer_queue.specs.declared.firing.Firing.{Firing}
 use Rattle.times.specs.Order.{StrictOrder}
-use Rattle.timer_queue.specs.Lists.{Any, Pairwise}
+use Rattle.timer_queue.specs.Lists.{Any}
 use Rattle.timer_queue.specs.Timers.{Inside}
 use Rattle.timer_queue.specs.Calls.{State}
 use Rattle.timer_queue.specs.Events.{Event}
-use Rattle.timer_queue.specs.Histories.{Course, log, marked, wake-ups, clock-after, courses, dropped, of, undisturbed, binds}
-use Rattle.timer_queue.specs.Claims.{Meets, Fired-once, No-timer-missed, No-shorter-list, Apart, Claims, Claims-hold}
+use Rattle.timer_queue.specs.Histories.{Course, log, marked, clock-after, courses, dropped, of, undisturbed, binds}
+use Rattle.timer_queue.specs.Claims.{Meets, Fired-once, Apart, Claims, Claims-hold}
 use Rattle.timer_queue.proofs.Elements.{any-so, any-with, all-in, pairwise-weaker}
 use Rattle.timer_queue.proofs.Stabbing.{Over, over-apart, Stabbed, needs-each}
-use Rattle.timer_queue.proofs.Waking.{From}
-use Rattle.timer_queue.proofs.Invariant.{Alive, Done, Gone, Bound, Fate, Marked, Holds}
+use Rattle.timer_queue.proofs.Invariant.{Fate, Marked, Holds}
 use Rattle.timer_queue.proofs.Living.{lived-holds}
 
 module _ {A : Type 0} (before : A → A → Bool) (o : StrictOrder before) (c : A) (es : List (Event A)) (s : State A) (h : Holds before o c es s) where

@@ -1,14 +1,14 @@
 -- `All`, `Any`, `Pairwise` and `kept-by`: what one of them gives of another.
 use mathlib.Core.Path.{_≡_, refl, sym, ap, subst, _∙_}
-use mathlib.Core.Bool.{Bool, true, false, cond, not, _||_}
+use mathlib.Core.Bool.{Bool, true, false, cond}
 use mathlib.Core.List.{List, [], _∷_, _++_, map}
-use mathlib.Core.Logic.{_⊎_, inl, inr, ⊎-elim}
+use mathlib.Core.Logic.{inl, inr, ⊎-elim}
 use lib.ListN.{length}
-use Prim.Native.Nat.{ℕ, suc, _+_, _≤_, _<_}
+use Prim.Native.Nat.{suc, _≤_, _<_}
 use native.Mathlib.Omega.{arith}
 use Rattle.std.specs.shelf.Lists.{All, kept-by}
 use Rattle.std.proofs.shelf.Elements.{all-append, all-weaker}
-use Rattle.std.proofs.shelf.Tests.{cond-true, cond-false, cond-both, cases-bool, or-cases, or-parts, true≢false}
+use Rattle.std.proofs.shelf.Tests.{cond-true, cond-false, cond-both, or-parts}
 use Rattle.timer_queue.specs.Lists.{Any, Pairwise, passes}
 
 -- x stands in xs
@@ -120,11 +120,7 @@ module _ {X : Type 0} (p : X → Bool) where
   none-kept [] a = refl
   none-kept (x ∷ xs) a = cond-false (p x) (x ∷ kept-by p xs) (kept-by p xs) (a .0) ∙ none-kept xs (a .1)
 
-  pub all-kept : (xs : List X) → All (λ x. p x ≡ true) xs → kept-by p xs ≡ xs
-  all-kept [] a = refl
-  all-kept (x ∷ xs) a = cond-true (p x) (x ∷ kept-by p xs) (kept-by p xs) (a .0) ∙ ap (λ l. x ∷ l) (all-kept xs (a .1))
-
-  pub kept-short : (xs : List X) → length (kept-by p xs) ≤ length xs
+  kept-short : (xs : List X) → length (kept-by p xs) ≤ length xs
   kept-short [] = omega arith
   kept-short (x ∷ xs) =
       let ih = kept-short xs in

@@ -4,7 +4,6 @@ use mathlib.Core.Bool.{Bool, true, false}
 use mathlib.Core.List.{List, [], _∷_, _++_}
 use mathlib.Core.Logic.{_⊎_}
 use lib.ListN.{length}
-use Prim.Native.Nat.{ℕ}
 use Rattle.std.specs.shelf.Lists.{All, kept-by}
 use Rattle.slot_heaps.specs.declared.timer.Timer.{Timer}
 use Rattle.timer_queue.specs.declared.firing.Firing.{Firing}
@@ -12,7 +11,7 @@ use Rattle.times.specs.Order.{StrictOrder}
 use Rattle.timer_queue.specs.Lists.{Any, Pairwise}
 use Rattle.timer_queue.specs.Timers.{Distinct, least-hard}
 use Rattle.timer_queue.specs.Calls.{State}
-use Rattle.timer_queue.specs.Events.{Deed, Event}
+use Rattle.timer_queue.specs.Events.{Event}
 use Rattle.timer_queue.specs.Histories.{Course, logged, log, marked, woken, wake-ups, clock-after, course, courses, dropped-by, dropped, tries, of, undisturbed}
 use Rattle.timer_queue.specs.Claims.{Meets, Counted, Nothing-else-logged}
 use Rattle.timer_queue.proofs.Elements.{In}

@@ -2,28 +2,26 @@
 use mathlib.Core.Path.{_≡_, refl, sym, ap, ap₂, subst, _∙_}
 use mathlib.Core.Bool.{Bool, true, false, not, _||_, _&&_}
 use mathlib.Core.List.{List, [], _∷_, _++_, append-nil, append-assoc}
-use mathlib.Core.Logic.{_⊎_, inl, inr, ⊎-elim}
+use mathlib.Core.Logic.{inl, inr, ⊎-elim}
 use lib.ListN.{length, length-append}
-use Prim.Native.Nat.{ℕ, _+_}
-use native.Mathlib.Omega.{arith}
+use Prim.Native.Nat.{_+_}
 use Rattle.std.specs.shelf.Lists.{All, kept-by}
 use Rattle.std.proofs.shelf.Elements.{all-weaker, all-append, all-push, all-kept-by, kept-by-append}
-use Rattle.std.proofs.shelf.Tests.{both-ways}
 use Rattle.slot_heaps.specs.declared.timer.Timer.{Timer}
 use Rattle.timer_queue.specs.declared.firing.Firing.{Firing}
 use Rattle.times.specs.Order.{StrictOrder}
 use Rattle.timer_queue.specs.Lists.{Any, Pairwise}
 use Rattle.timer_queue.specs.Calls.{State}
 use Rattle.timer_queue.specs.Events.{Deed, armed, cancelled, advanced, Event}
-use Rattle.timer_queue.specs.Histories.{Course, logged, log, marked, woken, wake-ups, course, courses, dropped-by, dropped, tries, of, undisturbed}
+use Rattle.timer_queue.specs.Histories.{Course, logged, log, marked, course, courses, dropped, tries, of, undisturbed}
 use Rattle.timer_queue.specs.Claims.{Due-once, Counted}
 use Rattle.timer_queue.proofs.Elements.{In, all-in, all-from-in, any-find, any-weaker, in-kept, kept-in, pairwise-append}
 use Rattle.timer_queue.proofs.Orders.{lt-le}
 use Rattle.timer_queue.proofs.Stabbing.{Over}
 use Rattle.timer_queue.proofs.Waking.{From, from-of}
-use Rattle.timer_queue.proofs.Walking.{Past, Logs, Once, marks, logs-after, logs-not}
+use Rattle.timer_queue.proofs.Walking.{Past, marks, logs-after, logs-not}
 use Rattle.timer_queue.proofs.Appending.{then-too, log-more, wake-ups-more, clock-more, each-more, longer, all-courses, any-courses, any-new}
-use Rattle.timer_queue.proofs.Invariant.{Alive, Done, Gone, Bound, Fate, Owned, Marked, Holds, Quiet, Drops, Treated, Origin, Step}
+use Rattle.timer_queue.proofs.Invariant.{Alive, Done, Bound, Fate, Owned, Marked, Holds, Quiet, Treated, Origin, Step}
 
 module _ {A : Type 0} (before : A → A → Bool) (o : StrictOrder before) where
   -- the event, and then more

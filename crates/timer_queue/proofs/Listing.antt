@@ -1,30 +1,28 @@
 -- An advance over a rearranged list does the same.
 use mathlib.Core.Path.{_≡_, refl, sym, ap, ap₂, subst, _∙_}
 use mathlib.Core.Bool.{Bool, true, false, not, _||_, _&&_, cond}
-use mathlib.Core.List.{List, [], _∷_, _++_, map}
+use mathlib.Core.List.{List, _∷_, _++_, map}
 use mathlib.Core.Logic.{_⊎_, inl, inr, ⊎-elim}
 use lib.Dec.{ltb, eqb}
 use lib.ListN.{length}
 use Prim.Native.Nat.{ℕ, zero, suc}
 use Rattle.std.specs.declared.option.Option.{Option}
 use Rattle.std.specs.declared.option.Option.the-variants.{Some, None}
-use Rattle.std.specs.declared.result.Result.{Result}
-use Rattle.std.specs.declared.result.Result.the-variants.{Ok, Err}
-use Rattle.std.specs.shelf.Lists.{All, kept-by}
-use Rattle.std.proofs.shelf.Tests.{both-ways, or-cases, or-parts, or-from, or-left, or-right, and-parts, and-from, and-right, not-from-false, not-true, eq-eqb}
+use Rattle.std.specs.declared.result.Result.the-variants.{Ok}
+use Rattle.std.specs.shelf.Lists.{kept-by}
+use Rattle.std.proofs.shelf.Tests.{both-ways, or-cases, or-parts, or-from, or-left, or-right, and-parts, and-from, and-right, eq-eqb}
 use Rattle.slot_heaps.specs.declared.timer.Timer.{Timer}
-use Rattle.timer_queue.specs.declared.firing.Firing.{Firing}
 use Rattle.timer_queue.specs.declared.fault.QueueFault.{QueueFault}
 use Rattle.timer_queue.specs.declared.fault.QueueFault.the-variants.{AlarmMoved, AdvancePassed, LogShort}
 use Rattle.times.specs.Order.{StrictOrder}
-use Rattle.timer_queue.specs.Lists.{Pairwise, Rearranged, sorted}
-use Rattle.timer_queue.specs.Timers.{Distinct, same, by-soft, least-hard}
-use Rattle.timer_queue.specs.WakeUps.{Served, entry, ripe, spared, bearer, wake-up, still, after, serve-from, serve, walk}
+use Rattle.timer_queue.specs.Lists.{Pairwise, Rearranged}
+use Rattle.timer_queue.specs.Timers.{Distinct, same, least-hard}
+use Rattle.timer_queue.specs.WakeUps.{Served, entry, ripe, spared, wake-up, still, serve-from, serve, walk}
 use Rattle.timer_queue.specs.Calls.{State, given, conclude, same-due, settle, advance-fault, advancing}
 use Rattle.timer_queue.specs.Rearranging.{listing, Alike, Order-of-listing-is-free}
 use Rattle.timer_queue.proofs.Elements.{pairwise-kept, pairwise-weaker}
 use Rattle.timer_queue.proofs.Orders.{number-order, same-is, same-itself}
-use Rattle.timer_queue.proofs.Rearranged.{rearranged-itself, length-rearranged, map-rearranged, kept-rearranged, least-rearranged}
+use Rattle.timer_queue.proofs.Rearranged.{length-rearranged, map-rearranged, kept-rearranged, least-rearranged}
 use Rattle.timer_queue.proofs.Sorting.{Differ, sorted-alike}
 
 module _ {A : Type 0} (before : A → A → Bool) (o : StrictOrder before) where

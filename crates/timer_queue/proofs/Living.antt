@@ -1,14 +1,13 @@
 -- An advance takes a step, so that every list of calls keeps the invariant.
-use mathlib.Core.Path.{_≡_, refl, sym, ap, subst, _∙_}
+use mathlib.Core.Path.{_≡_, refl, sym, _∙_}
 use mathlib.Core.Bool.{Bool, true, false}
-use mathlib.Core.List.{List, [], _∷_}
-use mathlib.Core.Logic.{_⊎_, inl, inr, ⊎-elim}
+use mathlib.Core.List.{List, []}
+use mathlib.Core.Logic.{inl, inr, ⊎-elim}
 use lib.ListN.{length}
 use Prim.Native.Nat.{ℕ}
 use Rattle.std.specs.declared.option.Option.{Option}
 use Rattle.std.specs.declared.option.Option.the-variants.{Some, None}
 use Rattle.std.specs.Results.{isOk}
-use Rattle.std.specs.shelf.Lists.{All}
 use Rattle.std.proofs.shelf.Elements.{all-weaker}
 use Rattle.std.proofs.shelf.Tests.{both-ways}
 use Rattle.slot_heaps.specs.declared.timer.Timer.{Timer}
@@ -16,8 +15,8 @@ use Rattle.timer_queue.specs.declared.fault.QueueFault.{QueueFault}
 use Rattle.timer_queue.specs.declared.fault.QueueFault.the-variants.{AdvancePassed}
 use Rattle.times.specs.Order.{StrictOrder}
 use Rattle.timer_queue.specs.WakeUps.{Served, walk}
-use Rattle.timer_queue.specs.Calls.{State, started, conclude, settle, arm-fault, cancel-fault, advance-fault}
-use Rattle.timer_queue.specs.Events.{advanced, Event, event, counts, Lived, starting, armed-next, cancelled-next, advanced-next, arm-event, cancel-event, advance-event}
+use Rattle.timer_queue.specs.Calls.{State, conclude, settle, arm-fault, cancel-fault, advance-fault}
+use Rattle.timer_queue.specs.Events.{advanced, Event, event, counts, Lived, starting, armed-next, cancelled-next, advanced-next}
 use Rattle.timer_queue.proofs.Elements.{In, all-in, all-from-in}
 use Rattle.timer_queue.proofs.Walking.{Walked, walked, Stays, Fared}
 use Rattle.timer_queue.proofs.Invariant.{Sound, Quiet, Treated, Origin, Step, Holds}

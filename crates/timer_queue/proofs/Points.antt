@@ -6,7 +6,7 @@ use Rattle.std.specs.shelf.Lists.{All, kept-by}
 use Rattle.std.proofs.shelf.Elements.{all-weaker, all-kept-by}
 use Rattle.slot_heaps.specs.declared.timer.Timer.{Timer}
 use Rattle.times.specs.Order.{StrictOrder}
-use Rattle.timer_queue.specs.WakeUps.{Served, ripe, spared, walk}
+use Rattle.timer_queue.specs.WakeUps.{Served, ripe, spared}
 use Rattle.timer_queue.specs.Greedy.{met, Greedy, all-met, next-point, Walk-is-greedy}
 use Rattle.timer_queue.proofs.Elements.{any-kept, none-kept, kept-like, kept-either-order}
 use Rattle.timer_queue.proofs.Waking.{Next, Proper}

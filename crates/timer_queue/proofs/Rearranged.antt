@@ -1,17 +1,16 @@
 -- What a rearrangement keeps.
-use mathlib.Core.Path.{_≡_, refl, sym, ap, subst, _∙_}
+use mathlib.Core.Path.{_≡_, refl, ap, subst, _∙_}
 use mathlib.Core.Bool.{Bool, true, false, cond}
 use mathlib.Core.List.{List, [], _∷_, map}
-use mathlib.Core.Logic.{_⊎_, inl, inr, ⊎-elim}
+use mathlib.Core.Logic.{inl, inr}
 use lib.ListN.{length}
-use Prim.Native.Nat.{ℕ, suc}
+use Prim.Native.Nat.{suc}
 use native.Mathlib.Omega.{arith}
 use Rattle.std.specs.declared.option.Option.{Option}
 use Rattle.std.specs.declared.option.Option.the-variants.{Some, None}
 use Rattle.std.specs.shelf.Lists.{All, kept-by}
-use Rattle.std.proofs.shelf.Tests.{cond-both, cases-bool, cond-true, cond-false}
 use Rattle.times.specs.Order.{StrictOrder}
-use Rattle.timer_queue.specs.Lists.{Any, Pairwise, Rearranged, none, keep, swap, then, least}
+use Rattle.timer_queue.specs.Lists.{Pairwise, Rearranged, none, keep, swap, then, least}
 use Rattle.timer_queue.proofs.Elements.{In}
 use Rattle.timer_queue.proofs.Least.{Lowest, least-lowest, least-none, lowest-one}
 

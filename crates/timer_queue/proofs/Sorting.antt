@@ -2,7 +2,7 @@
 use mathlib.Core.Path.{_≡_, refl, sym, ap, _∙_}
 use mathlib.Core.Bool.{Bool, true, false}
 use mathlib.Core.List.{List, [], _∷_}
-use mathlib.Core.Logic.{_⊎_, inl, inr, ⊎-elim}
+use mathlib.Core.Logic.{⊎-elim}
 use Rattle.std.proofs.shelf.Tests.{cond-both, cases-bool, cond-true, cond-false}
 use Rattle.times.specs.Order.{StrictOrder}
 use Rattle.timer_queue.specs.Lists.{Pairwise, Rearranged, none, keep, swap, then, put, sorted}

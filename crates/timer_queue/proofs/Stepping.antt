@@ -1,8 +1,8 @@
 -- An arming and a cancel each take a step, and so does a call that is refused.
 use mathlib.Core.Path.{_≡_, refl, sym, ap, subst, _∙_}
 use mathlib.Core.Bool.{Bool, true, false, not, _||_, _&&_}
-use mathlib.Core.List.{List, [], _∷_}
-use mathlib.Core.Logic.{_⊎_, inl, inr, ⊎-elim}
+use mathlib.Core.List.{List, []}
+use mathlib.Core.Logic.{inl, inr, ⊎-elim}
 use lib.Dec.{eqb}
 use lib.ListN.{length}
 use Prim.Native.Nat.{ℕ}
@@ -17,9 +17,9 @@ use Rattle.timer_queue.specs.declared.fault.QueueFault.{QueueFault}
 use Rattle.timer_queue.specs.declared.fault.QueueFault.the-variants.{AlarmMoved, HardBeforeSoft, SoftPassed, NumberPending, NotPending}
 use Rattle.times.specs.Order.{StrictOrder}
 use Rattle.timer_queue.specs.Lists.{Any, Pairwise, passes, put}
-use Rattle.timer_queue.specs.Timers.{Distinct, numbered, by-number, least-hard}
+use Rattle.timer_queue.specs.Timers.{numbered, by-number, least-hard}
 use Rattle.timer_queue.specs.Calls.{State, given, conclude, same-due, as-left, settle, arm-fault, cancel-fault}
-use Rattle.timer_queue.specs.Events.{Deed, armed, cancelled, advanced, Event, event}
+use Rattle.timer_queue.specs.Events.{Deed, armed, cancelled, Event, event}
 use Rattle.timer_queue.specs.Histories.{logged, woken, course, dropped-by, tries, of}
 use Rattle.timer_queue.specs.Claims.{Counted}
 use Rattle.timer_queue.proofs.Elements.{In, all-in, all-from-in, in-kept, kept-in, pairwise-kept, none-passes}
@@ -28,7 +28,7 @@ use Rattle.timer_queue.proofs.Rearranged.{all-rearranged, in-rearranged, pairw
 use Rattle.timer_queue.proofs.Sorting.{put-rearranged}
 use Rattle.timer_queue.proofs.Walking.{Past}
 use Rattle.timer_queue.proofs.Stabbing.{Over}
-use Rattle.timer_queue.proofs.Invariant.{Sound, Quiet, Drops, Treated, Origin, Step}
+use Rattle.timer_queue.proofs.Invariant.{Sound, Quiet, Treated, Origin, Step}
 
 pub given-none : (b : Bool) (f : QueueFault) (r : Option QueueFault) → given b f r ≡ None → (b ≡ false) × (r ≡ None)
 given-none true f r e = (cc, cc)

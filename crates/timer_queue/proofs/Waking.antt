@@ -2,24 +2,24 @@
 use mathlib.Core.Path.{_≡_, refl, sym, ap, subst, _∙_}
 use mathlib.Core.Bool.{Bool, true, false, not, _&&_}
 use mathlib.Core.List.{List, [], _∷_, map}
-use mathlib.Core.Logic.{_⊎_, inl, inr, ⊎-elim}
+use mathlib.Core.Logic.{inl, inr, ⊎-elim}
 use lib.Dec.{ltb, eqb}
 use Prim.Native.Nat.{ℕ}
 use Rattle.std.specs.declared.option.Option.{Option}
-use Rattle.std.specs.declared.option.Option.the-variants.{Some, None}
+use Rattle.std.specs.declared.option.Option.the-variants.{Some}
 use Rattle.std.specs.shelf.Lists.{All, kept-by}
 use Rattle.std.proofs.shelf.Elements.{all-weaker, all-map, kept-by-passes}
-use Rattle.std.proofs.shelf.Tests.{both-ways, cases-bool, and-parts, and-from, eqb-true, eq-eqb, not-from-true, not-from-false, not-true, cond-true, cond-false}
+use Rattle.std.proofs.shelf.Tests.{both-ways, cases-bool, and-parts, and-from, eqb-true, eq-eqb, not-from-false, cond-true, cond-false}
 use Rattle.slot_heaps.specs.declared.timer.Timer.{Timer}
 use Rattle.timer_queue.specs.declared.firing.Firing.{Firing}
 use Rattle.times.specs.Order.{StrictOrder}
-use Rattle.timer_queue.specs.Lists.{Any, Pairwise, Rearranged, sorted, least}
+use Rattle.timer_queue.specs.Lists.{Any, Rearranged, sorted}
 use Rattle.timer_queue.specs.Timers.{Distinct, same, by-soft, least-hard}
 use Rattle.timer_queue.specs.WakeUps.{entry, names, ripe, bearer, wake-up}
 use Rattle.timer_queue.specs.Histories.{of}
-use Rattle.timer_queue.proofs.Elements.{In, all-in, all-from-in, in-itself, any-weaker, any-find, any-at, any-map, map-any, map-all, any-kept, in-kept, kept-in, kept-by-map, none-kept, pairwise-kept}
+use Rattle.timer_queue.proofs.Elements.{In, all-in, all-from-in, any-weaker, any-find, any-at, any-map, map-any, map-all, any-kept, in-kept, kept-in, kept-by-map, none-kept, pairwise-kept}
 use Rattle.timer_queue.proofs.Orders.{number-order, same-is, same-itself}
-use Rattle.timer_queue.proofs.Least.{Lowest, least-lowest, least-some}
+use Rattle.timer_queue.proofs.Least.{least-lowest, least-some}
 use Rattle.timer_queue.proofs.Rearranged.{kept-rearranged, all-rearranged, rearranged-none, rearranged-one}
 use Rattle.timer_queue.proofs.Sorting.{sorted-rearranged}
 

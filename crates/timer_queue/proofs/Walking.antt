@@ -16,7 +16,7 @@ use Rattle.timer_queue.specs.Timers.{Distinct}
 use Rattle.timer_queue.specs.WakeUps.{Served, entry, ripe, spared, bearer, wake-up, still, after, walk}
 use Rattle.timer_queue.specs.Histories.{of}
 use Rattle.timer_queue.specs.Claims.{Meets}
-use Rattle.timer_queue.proofs.Elements.{In, all-in, all-from-in, in-itself, any-so, any-weaker, any-with, in-kept, kept-any, kept-in, none-kept, pairwise-kept}
+use Rattle.timer_queue.proofs.Elements.{In, all-in, all-from-in, in-itself, any-so, any-with, in-kept, kept-any, kept-in, none-kept, pairwise-kept}
 use Rattle.timer_queue.proofs.Orders.{le-lt}
 use Rattle.timer_queue.proofs.Going.{along-walk}
 use Rattle.timer_queue.proofs.Stabbing.{Over}

@@ -6,7 +6,7 @@
 --     settle s xs c     s with xs pending and the clock c, and the alarm due at the least hard time
 --     as-left s         the alarm is due as the queue left it
 use mathlib.Core.Bool.{Bool, true, false, cond, not}
-use mathlib.Core.List.{List, [], _∷_}
+use mathlib.Core.List.{List, []}
 use lib.Dec.{ltb, leb}
 use lib.ListN.{length}
 use Prim.Native.Nat.{ℕ, min}
@@ -21,7 +21,7 @@ use Rattle.timer_queue.specs.declared.fault.QueueFault.{QueueFault}
 use Rattle.timer_queue.specs.declared.fault.QueueFault.the-variants.{AlarmMoved, HardBeforeSoft, SoftPassed, NumberPending, QueueFull, NotPending, AdvancePassed, LogShort}
 use Rattle.timer_queue.specs.Lists.{passes, put}
 use Rattle.timer_queue.specs.Timers.{numbered, by-number, same, least-hard}
-use Rattle.timer_queue.specs.WakeUps.{Served, walk}
+use Rattle.timer_queue.specs.WakeUps.{walk}
 
 pub record State (A : Type 0) : Type 0 where
   pub usable : ℕ

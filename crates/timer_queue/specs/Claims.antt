@@ -16,7 +16,7 @@ use Rattle.timer_queue.specs.Lists.{Any, Pairwise}
 use Rattle.timer_queue.specs.Timers.{Inside}
 use Rattle.timer_queue.specs.Events.{Deed, armed, cancelled, advanced, Event, Lived}
 use Rattle.timer_queue.specs.Calls.{State}
-use Rattle.timer_queue.specs.Histories.{Course, logged, log, marked, wake-ups, clock-after, courses, dropped, of, firings, binds}
+use Rattle.timer_queue.specs.Histories.{Course, logged, marked, wake-ups, clock-after, courses, dropped, of, firings, binds}
 
 abbrev pub Counted : {A : Type 0} → Deed A → Type 0
 Counted (armed b x) = Unit {0}

@@ -4,7 +4,7 @@
 --     Event      a deed, and the alarm's clock after it
 --     Lived u c es s    es are the events, oldest first, of a list of calls on a queue started over u usable slots at clock c,
 --                       which left it in the state s; each event and what it leaves are computed from the definition of its call
-use mathlib.Core.Bool.{Bool, true, false}
+use mathlib.Core.Bool.{Bool}
 use mathlib.Core.List.{List, [], _∷_, _++_}
 use Prim.Native.Nat.{ℕ}
 use Rattle.std.specs.declared.result.Result.{Result}
@@ -13,7 +13,7 @@ use Rattle.std.specs.Results.{isOk}
 use Rattle.slot_heaps.specs.declared.timer.Timer.{Timer}
 use Rattle.timer_queue.specs.declared.firing.Firing.{Firing}
 use Rattle.timer_queue.specs.declared.fault.QueueFault.{QueueFault}
-use Rattle.timer_queue.specs.Calls.{State, Outcome, started, arming, cancelling, advancing}
+use Rattle.timer_queue.specs.Calls.{State, started, arming, cancelling, advancing}
 
 pub data Deed (A : Type 0) : Type 0 where
   armed : Bool → Timer A → Deed A

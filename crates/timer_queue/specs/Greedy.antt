@@ -8,7 +8,7 @@ use mathlib.Core.List.{List, [], _∷_}
 use Rattle.std.specs.shelf.Lists.{All, kept-by}
 use Rattle.slot_heaps.specs.declared.timer.Timer.{Timer}
 use Rattle.timer_queue.specs.Lists.{Any}
-use Rattle.timer_queue.specs.WakeUps.{Served, walk}
+use Rattle.timer_queue.specs.WakeUps.{walk}
 
 abbrev pub met : {A : Type 0} (before : A → A → Bool) → Timer A → A → Bool
 met before x w = not (before w (x .soft) || before (x .hard) w)
