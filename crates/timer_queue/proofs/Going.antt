@@ -32,7 +32,7 @@ module _ {A : Type 0} (before : A → A → Bool) (o : StrictOrder before) where
   module _ (t : A) where
     -- what holds where no hard time is before t, and of a wake-up and then more where it holds of the more, holds of every advance
     module _ (P : List (Timer A) → Served A → Type 0)
-        (stay : (xs : List (Timer A)) → All (λ x. before (x .hard) t ≡ false) xs → P xs (still before xs))
+        (stay : (xs : List (Timer A)) → All (λ x. before (x .hard) t ≡ false) xs → P xs (still xs))
         (wake : (w : A) (xs : List (Timer A)) (r : Served A) → Proper before o xs → Next before o xs w → before w t ≡ true →
         P (spared before w xs) r → P xs (after before w xs r)) where
       abbrev Goes : ℕ → Type 0
@@ -45,7 +45,7 @@ module _ {A : Type 0} (before : A → A → Bool) (o : StrictOrder before) where
       goes-from n ih xs l proper (Some w) e =
           let next = next-hard before o xs w e in
           let fewer = spares-fewer w xs proper e in
-          cond-both (before w t) (after before w xs (serve before n t (spared before w xs))) (still before xs) (P xs)
+          cond-both (before w t) (after before w xs (serve before n t (spared before w xs))) (still xs) (P xs)
           (λ soon. wake w xs (serve before n t (spared before w xs)) proper next soon (ih (spared before w xs) (omega arith) (spares-proper w xs proper)))
           (λ late. stay xs (all-weaker (λ x. before (x .hard) w ≡ false) (λ x. before (x .hard) t ≡ false) (λ x b. le-le before o t w (x .hard) late b) xs (next .bounds)))
 
@@ -63,7 +63,7 @@ module _ {A : Type 0} (before : A → A → Bool) (o : StrictOrder before) where
         (h : Option A) → least-hard before xs ≡ h → serve-from before f t xs h ≡ serve-from before g t xs h
     agree f g xs proper same None e = refl
     agree f g xs proper same (Some w) e =
-        ap (λ r. cond (before w t) (after before w xs r) (still before xs)) (same (spared before w xs) (spares-fewer w xs proper e) (spares-proper w xs proper))
+        ap (λ r. cond (before w t) (after before w xs r) (still xs)) (same (spared before w xs) (spares-fewer w xs proper e) (spares-proper w xs proper))
 
     enough : (n m : ℕ) (xs : List (Timer A)) → length xs ≤ n → length xs ≤ m → Proper before o xs → serve before n t xs ≡ serve before m t xs
     enough zero zero xs k l proper = refl

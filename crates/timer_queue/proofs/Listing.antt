@@ -92,7 +92,7 @@ module _ {A : Type 0} (before : A → A → Bool) (o : StrictOrder before) where
   abbrev Serves-alike : ℕ → A → Type 0
   Serves-alike n t = (xs ys : List (Timer A)) → Distinct xs → Rearranged xs ys → Served-alike (serve before n t xs) (serve before n t ys)
 
-  still-alike : (xs ys : List (Timer A)) → Rearranged xs ys → Served-alike (still before xs) (still before ys)
+  still-alike : (xs ys : List (Timer A)) → Rearranged xs ys → Served-alike (still xs) (still ys)
   still-alike xs ys r = record { wakes = refl; entries = refl; pending = r }
 
   from-alike : (n : ℕ) (t : A) → Serves-alike n t → (xs ys : List (Timer A)) → Distinct xs → Rearranged xs ys → (h : Option A) →

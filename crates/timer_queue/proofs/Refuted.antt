@@ -10,6 +10,7 @@ use Rattle.timer_queue.specs.Trials.{Wrong-rules-refused}
 
 pub wrong-rules-refused : Wrong-rules-refused
 wrong-rules-refused = (
+  refl,
   λ h. let n = h (10 ∷ []) (λ b. inl (refl, refl), (λ b. absurd (false≢true b), (λ b. inl (refl, refl), tt))) in omega arith,
   λ h. let n = h (5 ∷ []) (λ b. inl (refl, refl), (λ b. inl (refl, refl), tt)) in omega arith,
   λ h. let r = h .1 .0 refl refl in let wake = r .1 in let inside = r .2 .0 in let z : true ≡ false = cc in true≢false z,

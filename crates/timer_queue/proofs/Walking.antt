@@ -74,7 +74,7 @@ module _ {A : Type 0} (before : A → A → Bool) (o : StrictOrder before) where
     pub apart : Pairwise (Over before o) (marks (r .entries))
     pub over : All (λ f. Past (f .hard) t (r .pending)) (marks (r .entries))
 
-  walked-still : (t : A) (xs : List (Timer A)) → Distinct xs → All (λ q. before (q .hard) t ≡ false) xs → Walked t xs (still before xs)
+  walked-still : (t : A) (xs : List (Timer A)) → Distinct xs → All (λ q. before (q .hard) t ≡ false) xs → Walked t xs (still xs)
   walked-still t xs d a = record {
     part = in-itself xs;
     distinct = d;

@@ -1,6 +1,7 @@
--- The textbook greedy for meeting windows with the fewest points: the next point is the earliest right end not yet met. Assumes nothing.
+-- The textbook greedy for meeting windows with the fewest points. Assumes nothing.
 --     met x w            w lies in the window of x
---     Greedy xs ws       ws are the greedy's points, in order, for the windows of xs
+--     Greedy xs ws       ws are the greedy's points for the windows of xs: the first is the least of their right ends, and the others
+--                        are the greedy's points for the windows that it does not meet
 --     Walk-is-greedy     the wake times of an advance to t are the greedy's points for the windows that end before t
 use mathlib.Core.Path.{_≡_}
 use mathlib.Core.Bool.{Bool, false, not, _||_}

@@ -5,14 +5,19 @@
 --     haunted        the hard time of a cancelled timer wakes
 --     hasty          the wake-up at t is served on arriving at t: a cancel at that tick comes too late
 --     revenant       a cancelled timer is fired
---     Wrong-rules-refused    none of these histories keeps the claims, each for the claim that is named
+--     Wrong-rules-refused    none of these histories keeps the claims, each for the claim that is named; and the calls of the first
+--                            leave one wake-up by the definitions of the queue
+use mathlib.Core.Path.{_≡_}
 use mathlib.Core.Bool.{Bool, true, false}
-use mathlib.Core.List.{List, [], _∷_}
+use mathlib.Core.List.{List, [], _∷_, map}
 use lib.Dec.{ltb}
 use Prim.Native.Nat.{ℕ}
 use Rattle.slot_heaps.specs.declared.timer.Timer.{Timer}
 use Rattle.timer_queue.specs.declared.firing.Firing.{Firing}
+use Rattle.timer_queue.specs.Calls.{started}
 use Rattle.timer_queue.specs.Events.{armed, cancelled, advanced, Event, event}
+use Rattle.timer_queue.specs.Listed.{Request, arm, cancel, advance, recorded}
+use Rattle.timer_queue.specs.Histories.{wake-ups}
 use Rattle.timer_queue.specs.Claims.{No-timer-missed, No-shorter-list, Nothing-else-logged}
 
 abbrev timer : ℕ → ℕ → ℕ → Timer ℕ
@@ -57,7 +62,13 @@ revenant =
     arms (timer 1 0 10) ∷ (arms (timer 2 0 10) ∷ (event (cancelled true 2) 0 ∷
     (goes 11 1 (fired (timer 1 0 10) true 10 ∷ (fired (timer 2 0 10) false 10 ∷ [])) 2 ∷ [])))
 
+-- the calls of the first history
+abbrev calls : List (Request ℕ × ℕ)
+calls =
+    map (λ q. (q, 3))
+    (arm (timer 1 0 10) ∷ (arm (timer 2 11 20) ∷ (arm (timer 3 5 25) ∷ (advance 15 ∷ (cancel 2 ∷ (advance 26 ∷ []))))))
+
 abbrev pub Wrong-rules-refused : Type 0
 Wrong-rules-refused =
-    (No-shorter-list ltb 0 halting → ⊥) × (No-shorter-list ltb 0 eager → ⊥) × (No-timer-missed ltb 0 early → ⊥) ×
+    (wake-ups (recorded ltb (started 3 0) calls) ≡ 1) × (No-shorter-list ltb 0 halting → ⊥) × (No-shorter-list ltb 0 eager → ⊥) × (No-timer-missed ltb 0 early → ⊥) ×
     (No-shorter-list ltb 0 haunted → ⊥) × (No-shorter-list ltb 0 hasty → ⊥) × (Nothing-else-logged ltb revenant → ⊥)

@@ -35,6 +35,10 @@ pub record Served (A : Type 0) : Type 0 where
   pub entries : List (Firing A)
   pub pending : List (Timer A)
 
+-- no wake-up
+abbrev pub still : {A : Type 0} → List (Timer A) → Served A
+still xs = record { wakes = []; entries = []; pending = xs }
+
 module _ {A : Type 0} (before : A → A → Bool) where
   abbrev pub ripe : A → Timer A → Bool
   ripe w x = not (before w (x .soft))
@@ -48,9 +52,7 @@ module _ {A : Type 0} (before : A → A → Bool) where
   abbrev pub wake-up : A → List (Timer A) → List (Firing A)
   wake-up w xs = map (entry w (bearer w xs)) (sorted (by-soft before) (kept-by (ripe w) xs))
 
-  abbrev pub still : List (Timer A) → Served A
-  still xs = record { wakes = []; entries = []; pending = xs }
-
+  -- a wake-up at w, and then r
   abbrev pub after : A → List (Timer A) → Served A → Served A
   after w xs r = record { wakes = w ∷ r .wakes; entries = wake-up w xs ++ r .entries; pending = r .pending }
 
