@@ -1,6 +1,6 @@
 -- `All`, `Any`, `Pairwise` and `kept-by`: what one of them gives of another.
 use mathlib.Core.Path.{_≡_, refl, sym, ap, subst, _∙_}
-use mathlib.Core.Bool.{Bool, true, false, cond}
+use mathlib.Core.Bool.{Bool, true, false, cond, _&&_}
 use mathlib.Core.List.{List, [], _∷_, _++_, map}
 use mathlib.Core.Logic.{inl, inr, ⊎-elim}
 use lib.ListN.{length}
@@ -120,7 +120,7 @@ module _ {X : Type 0} (p : X → Bool) where
   none-kept [] a = refl
   none-kept (x ∷ xs) a = cond-false (p x) (x ∷ kept-by p xs) (kept-by p xs) (a .0) ∙ none-kept xs (a .1)
 
-  kept-short : (xs : List X) → length (kept-by p xs) ≤ length xs
+  pub kept-short : (xs : List X) → length (kept-by p xs) ≤ length xs
   kept-short [] = omega arith
   kept-short (x ∷ xs) =
       let ih = kept-short xs in
@@ -148,6 +148,10 @@ module _ {X : Type 0} (p : X → Bool) where
   none-passes [] e = tt
   none-passes (x ∷ xs) e = let h = or-parts (p x) (passes p xs) e in (h .0, none-passes xs (h .1))
 
+pub kept-all : {X : Type 0} (xs : List X) → kept-by (λ _. true) xs ≡ xs
+kept-all [] = refl
+kept-all (x ∷ xs) = ap (λ l. x ∷ l) (kept-all xs)
+
 module _ {X : Type 0} (p q : X → Bool) where
   pub kept-like : (xs : List X) → All (λ x. p x ≡ q x) xs → kept-by p xs ≡ kept-by q xs
   kept-like [] a = refl
@@ -167,3 +171,12 @@ module _ {X : Type 0} (p q : X → Bool) where
       (λ t. cond-both (p x) (x ∷ ps) ps (λ l. kept-by p qs ≡ kept-by q l)
       (λ u. ih ∙ sym (cond-false (q x) (x ∷ kept-by q ps) (kept-by q ps) t))
       (λ u. ih))
+
+  pub kept-both : (xs : List X) → kept-by p (kept-by q xs) ≡ kept-by (λ x. q x && p x) xs
+  kept-both [] = refl
+  kept-both (x ∷ xs) =
+      let qs = kept-by q xs in
+      let both = kept-by (λ y. q y && p y) xs in
+      cond-both (q x) (x ∷ qs) qs (λ l. kept-by p l ≡ cond (q x && p x) (x ∷ both) both)
+      (λ t. ap (λ l. cond (p x) (x ∷ l) l) (kept-both xs) ∙ ap (λ b. cond (b && p x) (x ∷ both) both) (sym t))
+      (λ f. kept-both xs ∙ ap (λ b. cond (b && p x) (x ∷ both) both) (sym f))

@@ -9,14 +9,14 @@ use Rattle.slot_heaps.specs.declared.timer.Timer.{Timer}
 use Rattle.timer_queue.specs.declared.firing.Firing.{Firing}
 use Rattle.times.specs.Order.{StrictOrder}
 use Rattle.timer_queue.specs.Lists.{Any, Pairwise}
-use Rattle.timer_queue.specs.Timers.{Distinct, least-hard}
 use Rattle.timer_queue.specs.Calls.{State}
+use Rattle.timer_queue.specs.States.{Standing}
 use Rattle.timer_queue.specs.Events.{Event}
 use Rattle.timer_queue.specs.Histories.{Course, logged, log, marked, woken, wake-ups, clock-after, course, courses, dropped-by, dropped, tries, of, undisturbed}
 use Rattle.timer_queue.specs.Claims.{Meets, Counted, Nothing-else-logged}
 use Rattle.timer_queue.proofs.Elements.{In}
 use Rattle.timer_queue.proofs.Stabbing.{Over}
-use Rattle.timer_queue.proofs.Waking.{From, Proper}
+use Rattle.timer_queue.proofs.Waking.{From}
 use Rattle.timer_queue.proofs.Walking.{Past, Logs, Once, marks}
 
 module _ {A : Type 0} (before : A → A → Bool) (o : StrictOrder before) where
@@ -50,15 +50,8 @@ module _ {A : Type 0} (before : A → A → Bool) (o : StrictOrder before) where
   abbrev pub Marked : List (Event A) → State A → Firing A → Type 0
   Marked es s f = Past before o (f .hard) (s .clock) (s .pending) × Any (λ k. From (k .timer) f × Bound k) (courses es)
 
-  -- what holds of the pending timers and the alarm between calls
-  pub record Sound (s : State A) : Type 0 where
-    pub due : s .due ≡ least-hard before (s .pending)
-    pub distinct : Distinct (s .pending)
-    pub proper : Proper before o (s .pending)
-    pub ahead : All (λ p. before (p .hard) (s .clock) ≡ false) (s .pending)
-
   pub record Holds (c : A) (es : List (Event A)) (s : State A) : Type 0 where
-    pub sound : Sound s
+    pub sound : Standing before s
     pub now : clock-after c es ≡ s .clock
     pub fates : All (Fate s) (courses es)
     pub owned : All (Owned es) (s .pending)
@@ -88,7 +81,8 @@ module _ {A : Type 0} (before : A → A → Bool) (o : StrictOrder before) where
 
   -- what a call does that has the event e and takes s to s′
   pub record Step (s : State A) (e : Event A) (s′ : State A) : Type 0 where
-    pub sound : Sound s′
+    pub sound : Standing before s′
+    pub usable : s′ .usable ≡ s .usable
     pub now : e .clock ≡ s′ .clock
     pub onward : before (s′ .clock) (s .clock) ≡ false
     pub treated : All (Treated e s′) (s .pending)

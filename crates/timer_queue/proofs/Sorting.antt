@@ -3,11 +3,13 @@ use mathlib.Core.Path.{_≡_, refl, sym, ap, _∙_}
 use mathlib.Core.Bool.{Bool, true, false}
 use mathlib.Core.List.{List, [], _∷_}
 use mathlib.Core.Logic.{⊎-elim}
+use Rattle.std.specs.shelf.Lists.{All}
+use Rattle.std.proofs.shelf.Elements.{all-weaker}
 use Rattle.std.proofs.shelf.Tests.{cond-both, cases-bool, cond-true, cond-false}
 use Rattle.times.specs.Order.{StrictOrder}
 use Rattle.timer_queue.specs.Lists.{Pairwise, Rearranged, none, keep, swap, then, put, sorted}
 use Rattle.timer_queue.proofs.Orders.{never-both, lt-le}
-use Rattle.timer_queue.proofs.Rearranged.{rearranged-itself, pairwise-rearranged}
+use Rattle.timer_queue.proofs.Rearranged.{rearranged-itself, all-rearranged, pairwise-rearranged}
 
 module _ {X : Type 0} (lt : X → X → Bool) where
   pub put-rearranged : (x : X) (xs : List X) → Rearranged (x ∷ xs) (put lt x xs)
@@ -73,3 +75,11 @@ module _ {X K : Type 0} (key : X → K) (before : K → K → Bool) (o : StrictO
   sorted-alike (keep x r) p = ap (put by x) (sorted-alike r (p .1))
   sorted-alike (swap x y zs) p = put-either-order x y (sorted by zs) (p .0 .0)
   sorted-alike (then r q) p = sorted-alike r p ∙ sorted-alike q (pairwise-rearranged Differ (λ x y d e. d (sym e)) r p)
+
+  -- an insertion into a list that rises leaves one that rises
+  pub put-rises : (x : X) (ys : List X) → All (Differ x) ys → Pairwise (λ y z. by y z ≡ true) ys → Pairwise (λ y z. by y z ≡ true) (put by x ys)
+  put-rises x [] d p = (tt, tt)
+  put-rises x (y ∷ ys) d p =
+      cond-both (by x y) (x ∷ (y ∷ ys)) (y ∷ put by x ys) (Pairwise (λ u v. by u v ≡ true))
+      (λ t. ((t, all-weaker (λ z. by y z ≡ true) (λ z. by x z ≡ true) (λ z l. o .transitive (key x) (key y) (key z) t l) ys (p .0)), p))
+      (λ f. (all-rearranged (λ z. by y z ≡ true) (put-rearranged by x ys) (other x y (d .0) f, p .0), put-rises x ys (d .1) (p .1)))

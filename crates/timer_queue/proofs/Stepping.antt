@@ -3,32 +3,34 @@ use mathlib.Core.Path.{_≡_, refl, sym, ap, subst, _∙_}
 use mathlib.Core.Bool.{Bool, true, false, not, _||_, _&&_}
 use mathlib.Core.List.{List, []}
 use mathlib.Core.Logic.{inl, inr, ⊎-elim}
-use lib.Dec.{eqb}
+use lib.Dec.{ltb, leb, eqb}
 use lib.ListN.{length}
 use Prim.Native.Nat.{ℕ}
+use native.Mathlib.Omega.{arith}
 use Rattle.std.specs.declared.option.Option.{Option}
 use Rattle.std.specs.declared.option.Option.the-variants.{Some, None}
 use Rattle.std.specs.Results.{isOk}
 use Rattle.std.specs.shelf.Lists.{All, kept-by}
 use Rattle.std.proofs.shelf.Elements.{all-weaker, all-kept-by, kept-by-passes}
-use Rattle.std.proofs.shelf.Tests.{both-ways, cases-bool, not-true, not-from-false, eqb-true, eq-eqb}
+use Rattle.std.proofs.shelf.Tests.{both-ways, cases-bool, not-true, not-from-false, eqb-true, eqb-false, eq-eqb, ne-eqb, ltb-true, leb-false}
 use Rattle.slot_heaps.specs.declared.timer.Timer.{Timer}
 use Rattle.timer_queue.specs.declared.fault.QueueFault.{QueueFault}
-use Rattle.timer_queue.specs.declared.fault.QueueFault.the-variants.{AlarmMoved, HardBeforeSoft, SoftPassed, NumberPending, NotPending}
+use Rattle.timer_queue.specs.declared.fault.QueueFault.the-variants.{AlarmMoved, HardBeforeSoft, SoftPassed, NumberPending, QueueFull, NotPending}
 use Rattle.times.specs.Order.{StrictOrder}
 use Rattle.timer_queue.specs.Lists.{Any, Pairwise, passes, put}
-use Rattle.timer_queue.specs.Timers.{numbered, by-number, least-hard}
+use Rattle.timer_queue.specs.Timers.{Distinct, numbered, by-number, least-hard}
 use Rattle.timer_queue.specs.Calls.{State, given, conclude, same-due, as-left, settle, arm-fault, cancel-fault}
+use Rattle.timer_queue.specs.States.{Standing}
 use Rattle.timer_queue.specs.Events.{Deed, armed, cancelled, Event, event}
 use Rattle.timer_queue.specs.Histories.{logged, woken, course, dropped-by, tries, of}
 use Rattle.timer_queue.specs.Claims.{Counted}
-use Rattle.timer_queue.proofs.Elements.{In, all-in, all-from-in, in-kept, kept-in, pairwise-kept, none-passes}
-use Rattle.timer_queue.proofs.Orders.{same-itself, le-le}
-use Rattle.timer_queue.proofs.Rearranged.{all-rearranged, in-rearranged, pairwise-rearranged}
-use Rattle.timer_queue.proofs.Sorting.{put-rearranged}
+use Rattle.timer_queue.proofs.Elements.{In, all-in, all-from-in, in-kept, kept-in, pairwise-kept, pairwise-weaker, kept-short, none-passes}
+use Rattle.timer_queue.proofs.Orders.{number-order, same-itself, le-le}
+use Rattle.timer_queue.proofs.Rearranged.{length-rearranged, all-rearranged, in-rearranged}
+use Rattle.timer_queue.proofs.Sorting.{put-rearranged, put-rises}
 use Rattle.timer_queue.proofs.Walking.{Past}
 use Rattle.timer_queue.proofs.Stabbing.{Over}
-use Rattle.timer_queue.proofs.Invariant.{Sound, Quiet, Treated, Origin, Step}
+use Rattle.timer_queue.proofs.Invariant.{Quiet, Treated, Origin, Step}
 
 pub given-none : (b : Bool) (f : QueueFault) (r : Option QueueFault) → given b f r ≡ None → (b ≡ false) × (r ≡ None)
 given-none true f r e = (cc, cc)
@@ -42,8 +44,21 @@ module _ {A : Type 0} (before : A → A → Bool) (o : StrictOrder before) where
   same-due-itself None = refl
   same-due-itself (Some a) = same-itself before o a
 
-  pub sound-as-left : (s : State A) → Sound before o s → as-left before s ≡ true
-  sound-as-left s h = ap (λ d. same-due before d (least-hard before (s .pending))) (h .due) ∙ same-due-itself (least-hard before (s .pending))
+  pub alarm-as-left : (s : State A) → Standing before s → as-left before s ≡ true
+  alarm-as-left s h = ap (λ d. same-due before d (least-hard before (s .pending))) (h .due) ∙ same-due-itself (least-hard before (s .pending))
+
+  pub standing-distinct : (s : State A) → Standing before s → Distinct (s .pending)
+  standing-distinct s h =
+      pairwise-weaker (λ p q. by-number p q ≡ true) (λ p q. eqb (p .number) (q .number) ≡ false)
+      (λ p q l. ne-eqb (p .number) (q .number) (λ e. omega (arith, ltb-true (p .number) (q .number) l))) (s .pending) (h .rising)
+
+  -- fewer timers, at a clock that no hard time of theirs is before
+  pub standing-kept : (s : State A) (test : Timer A → Bool) (c : A) → Standing before s → All (λ p. before (p .hard) c ≡ false) (kept-by test (s .pending)) →
+      Standing before (settle before s (kept-by test (s .pending)) c)
+  standing-kept s test c h a =
+      let short = kept-short test (s .pending) in
+      let room = h .few in
+      record { rising = pairwise-kept test _ (s .pending) (h .rising); few = omega arith; proper = all-kept-by test _ (s .pending) (h .proper); ahead = a; due = refl }
 
   -- a deed that does nothing, and tries no cancel of a pending timer
   pub record Idle (s : State A) (d : Deed A) : Type 0 where
@@ -54,7 +69,7 @@ module _ {A : Type 0} (before : A → A → Bool) (o : StrictOrder before) where
     pub untried : All (λ p. tries (p .number) d ≡ false) (s .pending)
     pub counted : Counted d
 
-  pub idle-step : (s : State A) (d : Deed A) → Sound before o s → Idle s d → Step before o s (event d (s .clock)) s
+  pub idle-step : (s : State A) (d : Deed A) → Standing before s → Idle s d → Step before o s (event d (s .clock)) s
   idle-step s d h idle =
       let quiet : (p : Timer A) → In (s .pending) p → Quiet before o (event d (s .clock)) p = λ p i. record {
         unlogged = ap (kept-by (of before p)) (idle .unlogged);
@@ -64,6 +79,7 @@ module _ {A : Type 0} (before : A → A → Bool) (o : StrictOrder before) where
       } in
       record {
         sound = h;
+        usable = refl;
         now = refl;
         onward = o .irreflexive (s .clock);
         treated = all-from-in (Treated before o (event d (s .clock)) s) (s .pending) (λ p i. inl (i, quiet p i));
@@ -76,10 +92,10 @@ module _ {A : Type 0} (before : A → A → Bool) (o : StrictOrder before) where
         counted = idle .counted;
       }
 
-  module _ (s : State A) (h : Sound before o s) where
+  module _ (s : State A) (h : Standing before s) where
     -- each clause of a call's tests that refused nothing did not hold
     pub alarm-kept : (r : Option QueueFault) → given (not (as-left before s)) AlarmMoved r ≡ r
-    alarm-kept r = ap (λ b. given (not b) AlarmMoved r) (sound-as-left s h)
+    alarm-kept r = ap (λ b. given (not b) AlarmMoved r) (alarm-as-left s h)
 
     module _ (x : Timer A) (passed : arm-fault before s x ≡ None) where
       abbrev holding : List (Timer A)
@@ -88,12 +104,14 @@ module _ {A : Type 0} (before : A → A → Bool) (o : StrictOrder before) where
       abbrev armed-event : Event A
       armed-event = event (armed true x) (s .clock)
 
-      tests : (before (x .hard) (x .soft) ≡ false) × (before (x .soft) (s .clock) ≡ false) × (passes (numbered (x .number)) (s .pending) ≡ false)
+      tests : (before (x .hard) (x .soft) ≡ false) × (before (x .soft) (s .clock) ≡ false) × (passes (numbered (x .number)) (s .pending) ≡ false) ×
+          (leb (s .usable) (length (s .pending)) ≡ false)
       tests =
           let a = given-none (before (x .hard) (x .soft)) HardBeforeSoft _ (sym (alarm-kept _) ∙ passed) in
           let b = given-none (before (x .soft) (s .clock)) SoftPassed _ (a .1) in
           let c = given-none (passes (numbered (x .number)) (s .pending)) NumberPending _ (b .1) in
-          (a .0, b .0, c .0)
+          let d = given-none (leb (s .usable) (length (s .pending))) QueueFull _ (c .1) in
+          (a .0, b .0, c .0, d .0)
 
       others : All (λ p. eqb (x .number) (p .number) ≡ false) (s .pending)
       others =
@@ -108,12 +126,14 @@ module _ {A : Type 0} (before : A → A → Bool) (o : StrictOrder before) where
         ahead = all-in (λ q. before (q .hard) (s .clock) ≡ false) p (s .pending) (h .ahead) i;
       }
 
-      arm-sound : Sound before o (settle before s holding (s .clock))
+      arm-sound : Standing before (settle before s holding (s .clock))
       arm-sound =
           let r = put-rearranged by-number x (s .pending) in
           record {
             due = refl;
-            distinct = pairwise-rearranged (λ p q. eqb (p .number) (q .number) ≡ false) (λ p q. eqb-turn (p .number) (q .number)) r (others, h .distinct);
+            rising = put-rises (λ p. p .number) ltb number-order x (s .pending)
+                (all-weaker (λ p. eqb (x .number) (p .number) ≡ false) (λ p. x .number ≡ p .number → ⊥) (λ p. eqb-false (x .number) (p .number)) (s .pending) others) (h .rising);
+            few = omega (arith, length-rearranged r, leb-false (s .usable) (length (s .pending)) (tests .3));
             proper = all-rearranged (λ p. before (p .hard) (p .soft) ≡ false) r (tests .0, h .proper);
             ahead = all-rearranged (λ p. before (p .hard) (s .clock) ≡ false) r (le-le before o (s .clock) (x .soft) (x .hard) (tests .1) (tests .0), h .ahead);
           }
@@ -123,6 +143,7 @@ module _ {A : Type 0} (before : A → A → Bool) (o : StrictOrder before) where
           let r = put-rearranged by-number x (s .pending) in
           record {
             sound = arm-sound;
+            usable = refl;
             now = refl;
             onward = o .irreflexive (s .clock);
             treated = all-from-in (Treated before o armed-event (settle before s holding (s .clock))) (s .pending) (λ p i. inl (in-rearranged p r (inr i), arm-quiet p i));
@@ -163,12 +184,8 @@ module _ {A : Type 0} (before : A → A → Bool) (o : StrictOrder before) where
       cancel-accepted =
           let ps = s .pending in
           record {
-            sound = record {
-              due = refl;
-              distinct = pairwise-kept other _ ps (h .distinct);
-              proper = all-kept-by other _ ps (h .proper);
-              ahead = all-kept-by other _ ps (h .ahead);
-            };
+            sound = standing-kept s other (s .clock) h (all-kept-by other _ ps (h .ahead));
+            usable = refl;
             now = refl;
             onward = o .irreflexive (s .clock);
             treated = all-from-in (Treated before o cancel-event (settle before s (kept-by other ps) (s .clock))) ps

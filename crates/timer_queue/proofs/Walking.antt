@@ -1,6 +1,6 @@
 -- The wake-ups of an advance, one after the other.
 use mathlib.Core.Path.{_≡_, refl, sym, ap, subst, _∙_}
-use mathlib.Core.Bool.{Bool, true, false, not}
+use mathlib.Core.Bool.{Bool, true, false, not, _&&_}
 use mathlib.Core.List.{List, [], _∷_, _++_}
 use mathlib.Core.Logic.{_⊎_, inl, inr, ⊎-elim}
 use lib.ListN.{length}
@@ -16,7 +16,7 @@ use Rattle.timer_queue.specs.Timers.{Distinct}
 use Rattle.timer_queue.specs.WakeUps.{Served, entry, ripe, spared, bearer, wake-up, still, after, walk}
 use Rattle.timer_queue.specs.Histories.{of}
 use Rattle.timer_queue.specs.Claims.{Meets}
-use Rattle.timer_queue.proofs.Elements.{In, all-in, all-from-in, in-itself, any-so, any-with, in-kept, kept-any, kept-in, none-kept, pairwise-kept}
+use Rattle.timer_queue.proofs.Elements.{In, all-in, all-from-in, in-itself, any-so, any-with, kept-all, kept-both, kept-any, kept-in, none-kept, pairwise-kept}
 use Rattle.timer_queue.proofs.Orders.{le-lt}
 use Rattle.timer_queue.proofs.Going.{along-walk}
 use Rattle.timer_queue.proofs.Stabbing.{Over}
@@ -65,8 +65,8 @@ module _ {A : Type 0} (before : A → A → Bool) (o : StrictOrder before) where
 
   -- what an advance to t makes of the pending timers xs
   pub record Walked (t : A) (xs : List (Timer A)) (r : Served A) : Type 0 where
-    pub part : All (In xs) (r .pending)
-    pub distinct : Distinct (r .pending)
+    pub test : Timer A → Bool
+    pub left : r .pending ≡ kept-by test xs
     pub ahead : All (λ q. before (q .hard) t ≡ false) (r .pending)
     pub logs : Logs xs (r .entries)
     pub fates : All (Fared t (r .pending) (r .entries)) xs
@@ -74,10 +74,10 @@ module _ {A : Type 0} (before : A → A → Bool) (o : StrictOrder before) where
     pub apart : Pairwise (Over before o) (marks (r .entries))
     pub over : All (λ f. Past (f .hard) t (r .pending)) (marks (r .entries))
 
-  walked-still : (t : A) (xs : List (Timer A)) → Distinct xs → All (λ q. before (q .hard) t ≡ false) xs → Walked t xs (still xs)
-  walked-still t xs d a = record {
-    part = in-itself xs;
-    distinct = d;
+  walked-still : (t : A) (xs : List (Timer A)) → All (λ q. before (q .hard) t ≡ false) xs → Walked t xs (still xs)
+  walked-still t xs a = record {
+    test = λ _. true;
+    left = sym (kept-all xs);
     ahead = a;
     logs = tt;
     fates = all-weaker (In xs) (Fared t xs []) (λ p i. inl (i, refl)) xs (in-itself xs);
@@ -96,12 +96,14 @@ module _ {A : Type 0} (before : A → A → Bool) (o : StrictOrder before) where
         all-weaker (λ q. not (ripe before w q) ≡ true) (λ q. before w (q .soft) ≡ true)
         (λ q h. not-false (before w (q .soft)) (not-true (ripe before w q) h)) late (kept-by-passes (λ q. not (ripe before w q)) xs)
 
+    late-after : (a : A) → before w a ≡ false → All (λ q. before a (q .soft) ≡ true) late
+    late-after a h = all-weaker (λ q. before w (q .soft) ≡ true) (λ q. before a (q .soft) ≡ true) (λ q l. le-lt before o a w (q .soft) h l) late late-softs
+
     -- a time that is not after w is over
     over-now : (a : A) → before w a ≡ false → Past a t (r .pending)
     over-now a h = record {
       clock = le-lt before o a w t h soon;
-      softs = all-weaker (In late) (λ q. before a (q .soft) ≡ true)
-          (λ q i. le-lt before o a w (q .soft) h (all-in (λ z. before w (z .soft) ≡ true) q late late-softs i)) (r .pending) (rest .part);
+      softs = subst (All (λ q. before a (q .soft) ≡ true)) (sym (rest .left)) (all-kept-by (rest .test) (λ q. before a (q .soft) ≡ true) late (late-after a h));
     }
 
     joined : (g : Firing A → Bool) (us vs : List (Firing A)) → kept-by g (wake-up before w xs) ≡ us → kept-by g (r .entries) ≡ vs →
@@ -114,9 +116,7 @@ module _ {A : Type 0} (before : A → A → Bool) (o : StrictOrder before) where
         record {
           by = entry w (bearer before w xs) p;
           one = joined (of before p) (entry w (bearer before w xs) p ∷ []) [] (logs-once before o w xs p d i h)
-              (logs-not p late (r .entries)
-              (all-weaker (λ q. before w (q .soft) ≡ true) (λ q. before (p .soft) (q .soft) ≡ true) (λ q l. le-lt before o (p .soft) w (q .soft) soft l) late late-softs)
-              (rest .logs));
+              (logs-not p late (r .entries) (late-after (p .soft) soft) (rest .logs));
           inside = (soft, all-in (λ x. before (x .hard) w ≡ false) p xs (next .bounds) i);
           over = over-now (p .soft) soft;
         }
@@ -137,8 +137,8 @@ module _ {A : Type 0} (before : A → A → Bool) (o : StrictOrder before) where
         let e = joined (λ f. f .mark) (entry w (bearer before w xs) (one .0 .timer) ∷ []) (marks (r .entries)) (one .1) refl in
         let at-w = sym (one .0 .at-w) in
         record {
-          part = all-weaker (In late) (In xs) (λ q i. in-kept (λ x. not (ripe before w x)) q xs i) (r .pending) (rest .part);
-          distinct = rest .distinct;
+          test = λ x. not (ripe before w x) && rest .test x;
+          left = rest .left ∙ kept-both (rest .test) (λ x. not (ripe before w x)) xs;
           ahead = rest .ahead;
           logs = all-append (λ f. Any (λ q. From q f) xs) (wake-up before w xs) (r .entries) (logs-ripe before o w xs)
               (all-weaker (λ f. Any (λ q. From q f) late) (λ f. Any (λ q. From q f) xs) (λ f i. kept-any (λ x. not (ripe before w x)) (λ q. From q f) xs i) (r .entries) (rest .logs));
@@ -157,5 +157,5 @@ module _ {A : Type 0} (before : A → A → Bool) (o : StrictOrder before) where
 
   pub walked : (t : A) (xs : List (Timer A)) → Distinct xs → Proper before o xs → Walked t xs (walk before t xs)
   walked t xs d proper =
-      along-walk before o t (λ ys r. Distinct ys → Walked t ys r) (λ ys late e. walked-still t ys e late)
+      along-walk before o t (λ ys r. Distinct ys → Walked t ys r) (λ ys late e. walked-still t ys late)
       (λ w ys r proper next soon rest e. walked-after t w ys r e proper next soon (rest (pairwise-kept (λ x. not (ripe before w x)) _ ys e))) xs proper d

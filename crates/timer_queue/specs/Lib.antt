@@ -7,6 +7,7 @@ pub mod Histories
 pub mod Listed
 pub mod Lists
 pub mod Rearranging
+pub mod States
 pub mod Timers
 pub mod WakeUps
 pub mod Readings

@@ -4,6 +4,7 @@ ghost use Rattle.timer_queue.specs.Greedy.{Walk-is-greedy};
 ghost use Rattle.timer_queue.specs.Listed.{Calls-recorded};
 ghost use Rattle.timer_queue.specs.Readings.{Readings};
 ghost use Rattle.timer_queue.specs.Rearranging.{Order-of-listing-is-free};
+ghost use Rattle.timer_queue.specs.States.{States-stand};
 ghost use Rattle.timer_queue.specs.Trials.{Wrong-rules-refused};
 ghost use Rattle.timer_queue.specs.WakeUps.{Walk-goes-on};
 use times::Time;
@@ -21,6 +22,11 @@ fn calls_are_recorded<T: Time>()
 // An advance is no wake-up, or one at the least hard time and then an advance over the timers that it leaves.
 fn walk_goes_on<T: Time>()
     ensures { λ _. ⌜ Walk-goes-on (T·Time .before) ⌝ }
+{}
+
+// Every state that a list of calls leaves: pending timers by rising number, no more than slots, none overdue, the alarm due at the least.
+fn states_stand<T: Time>()
+    ensures { λ _. ⌜ States-stand (T·Time .before) ⌝ }
 {}
 
 // The wake times of an advance are the points of the textbook greedy.
