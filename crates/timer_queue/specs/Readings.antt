@@ -52,9 +52,12 @@ module _ {A : Type 0} (before : A → A → Bool) (at : ℕ → A) where
     pub touching : answers (both (timer 1 0 10) (timer 2 10 20)) 21 ≡ Ok (1, 2)
     pub touching-at : logs (both (timer 1 0 10) (timer 2 10 20)) 21 ≡ (1, true, at 10) ∷ ((2, false, at 10) ∷ [])
     pub apart : answers (both (timer 1 0 10) (timer 2 11 20)) 21 ≡ Ok (2, 2)
-    -- the log goes by soft time, the mark by number
+    -- the log goes by soft time, the mark by number among those whose hard time it is
     pub ordered : answers (both (timer 5 0 8) (timer 3 2 8)) 9 ≡ Ok (1, 2)
     pub marked : logs (both (timer 5 0 8) (timer 3 2 8)) 9 ≡ (5, false, at 8) ∷ ((3, true, at 8) ∷ [])
+    pub marked-hard : logs (both (timer 1 0 20) (timer 2 5 10)) 11 ≡ (1, false, at 10) ∷ ((2, true, at 10) ∷ [])
+    -- an advance takes the clock along
+    pub clock-moves : after 0 (advance (at 5) ∷ []) .clock ≡ at 5
     -- refusals, each beside what is just accepted
     pub hard-before-soft : code (arming before (after 0 []) (timer 1 5 4) .answer) ≡ 0x32
     pub hard-at-soft : code (arming before (after 0 []) (timer 1 4 4) .answer) ≡ 0
