@@ -1,0 +1,20 @@
+// Alarm devices: one meaning, a clock and a due time, and the devices that keep it.
+mod comparators;
+mod down_counters;
+mod faults;
+mod low_bit_matchers;
+mod low_bits;
+mod meaning;
+mod short;
+mod steps;
+
+pub use comparators::Comparator;
+pub use comparators::ComparatorAlarm;
+pub use down_counters::DownCounter;
+pub use down_counters::DownCounterShortAlarm;
+pub use faults::AlarmFault;
+pub use faults::Passage;
+pub use low_bit_matchers::LowBitMatcher;
+pub use low_bit_matchers::LowBitMatcherShortAlarm;
+pub use meaning::Alarm;
+pub use short::ShortAlarm;

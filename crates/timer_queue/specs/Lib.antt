@@ -1,0 +1,14 @@
+pub mod Calls
+pub mod Claims
+pub mod Events
+pub mod Faults
+pub mod Greedy
+pub mod Histories
+pub mod Listed
+pub mod Lists
+pub mod Rearranging
+pub mod States
+pub mod Timers
+pub mod WakeUps
+pub mod Readings
+pub mod Trials

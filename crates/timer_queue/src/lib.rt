@@ -1,0 +1,4 @@
+// A queue of one-shot timers with the fewest wake-ups. So far: what it logs, its faults, and the laws of its definitions.
+pub mod fault;
+pub mod firing;
+mod laws;

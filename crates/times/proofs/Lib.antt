@@ -1,0 +1,5 @@
+pub mod ByPlace
+pub mod DayTimes
+pub mod Measures
+pub mod TestedFacts
+pub mod TickTimes

@@ -1,0 +1,77 @@
+ghost use mathlib.Core.Path.{_≡_};
+ghost use Rattle.std.specs.Options.{okOr};
+ghost use Rattle.times.specs.DayTicks.{day-tick-place, day-tick-before, day-tick-of, day-tick-at, day-tick-plain, day-tick-reads, last-day-tick};
+ghost use Rattle.times.specs.declared.faults.TimeFault.the-variants.{NoSuchTime};
+use super::DayTick;
+use crate::faults::TimeFault;
+use crate::order::Time;
+use crate::places::Measured;
+use crate::plain::Plain;
+
+const TICKS_A_DAY: u64 = 8_640_000;
+
+impl DayTick {
+    pub fn new(day: u32, tick: u32) -> Result<Self, TimeFault>
+        ensures { λ r. ⌜ r ≡ okOr (day-tick-of day tick) NoSuchTime ⌝ }
+    {
+        if u64::from(tick) >= TICKS_A_DAY {
+            return Err(TimeFault::NoSuchTime);
+        }
+        Ok(DayTick { day, tick })
+    }
+}
+
+pub impl Time for DayTick as DayTickTime {
+    ghost before = { day-tick-before };
+
+    fn before(self, other: DayTick) -> bool {
+        self.day < other.day || (self.day == other.day && self.tick < other.tick)
+    }
+}
+
+pub impl Measured for DayTick as DayTickMeasured {
+    ghost place = { day-tick-place };
+
+    ghost at = { day-tick-at };
+
+    ghost last = { last-day-tick };
+
+    fn place(self) -> u64 {
+        u64::from(self.day) * TICKS_A_DAY + u64::from(self.tick)
+    }
+
+    // The ticks past midnight carry over into the day, several days at once.
+    fn checked_ahead(self, n: u32) -> Option<DayTick> {
+        let ticks = u64::from(self.tick) + u64::from(n);
+        let day = u64::from(self.day) + ticks / TICKS_A_DAY;
+        let tick = (ticks % TICKS_A_DAY) as u32;
+        if day > u64::from(u32::MAX) {
+            return None;
+        }
+        Some(DayTick {
+            day: day as u32,
+            tick,
+        })
+    }
+
+    fn last() -> DayTick {
+        DayTick {
+            day: u32::MAX,
+            tick: (TICKS_A_DAY - 1) as u32,
+        }
+    }
+}
+
+pub impl Plain for DayTick as DayTickPlain {
+    ghost plain = { day-tick-plain };
+
+    ghost reads = { day-tick-reads };
+
+    fn to_plain(self) -> u64 {
+        (u64::from(self.day) << 32) | u64::from(self.tick)
+    }
+
+    fn from_plain(form: u64) -> Result<DayTick, TimeFault> {
+        DayTick::new((form >> 32) as u32, (form & 0xffff_ffff) as u32)
+    }
+}
