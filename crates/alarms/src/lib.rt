@@ -1,4 +1,5 @@
 // Alarm devices: one meaning, a clock and a due time, and the devices that keep it.
+mod chains;
 mod comparators;
 mod down_counters;
 mod faults;
@@ -8,6 +9,8 @@ mod meaning;
 mod short;
 mod steps;
 
+pub use chains::ChainedAlarm;
+pub use chains::ChainedAlarmAlarm;
 pub use comparators::Comparator;
 pub use comparators::ComparatorAlarm;
 pub use down_counters::DownCounter;

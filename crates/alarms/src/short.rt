@@ -15,9 +15,10 @@ pub trait ShortAlarm<T: Measured> {
 
     ghost reach: { ℕ };
 
+    law reaching: { 0 < reach };
+
     fn reach() -> u32
-        ensures value { λ r. ⌜ r ≡ reach ⌝ }
-        ensures some { λ r. ⌜ 0 < r ⌝ };
+        ensures { λ r. ⌜ r ≡ reach ⌝ };
 
     fn clock(&self) -> T
         ensures { λ r. ⌜ r ≡ clock (now (self .entry)) ⌝ };
