@@ -13,6 +13,7 @@ use crate::short::ShortAlarm;
 use times::Measured;
 use times::Time;
 
+#[derive(Drop)]
 pub struct ChainedAlarm<T, S> {
     short: S,
     // means something only while the short alarm is due
