@@ -14,7 +14,7 @@ use Rattle.std.specs.declared.result.Result.the-variants.{Ok}
 use Rattle.times.specs.Order.{StrictOrder}
 use Rattle.times.specs.Places.{Measure, capped}
 use Rattle.times.proofs.Measures.{before-place, not-before-place, place-before, place-not-before, same-place}
-use Rattle.alarms.specs.Chains.{Counted, chain-due, stage-to}
+use Rattle.alarms.specs.Chains.{Counted, goal-due, stage-to}
 use Rattle.alarms.specs.Meaning.{Gives, onward, pass-to, set-to}
 use Rattle.alarms.specs.declared.faults.AlarmFault.{AlarmFault}
 use Rattle.alarms.specs.declared.faults.Passage.{Passage}
@@ -33,7 +33,7 @@ pub record Chase {A : Type 0} (place : A → ℕ) (reach start : ℕ) (goal t cl
   pub short : (rings ≡ 0) ⊎ ((place clock < place t) × (place clock < place goal))
 
 pub record Ended {A : Type 0} (before : A → A → Bool) (place : A → ℕ) (reach : ℕ) (from goal t clock : A) (due : Option A) (passage : Passage) (rings : ℕ) : Type 0 where
-  pub value : Gives (pass-to before from (Some goal) t) (Ok passage) clock (chain-due before due goal)
+  pub value : Gives (pass-to before from (Some goal) t) (Ok passage) clock (goal-due before due goal)
   pub count : Counted reach (Some goal) (place clock - place from) (Ok (passage, rings))
 
 module _ {A : Type 0} {before : A → A → Bool} {place : A → ℕ} {at : ℕ → Option A} {last : A} (m : Measure before place at last) (o : StrictOrder before) {reach start : ℕ} (reaching : 0 < reach) {goal t clock : A} {due : Option A} {rings : ℕ} (h : Chase place reach start goal t clock due rings) where
@@ -109,7 +109,7 @@ module _ {A : Type 0} {before : A → A → Bool} {place : A → ℕ} {at : ℕ 
           let stages = since clock′ (⊎-elim inl (λ (b : (place clock < place t) × (place clock < place goal)). inr (omega (arith, b .1))) (h .short)) (omega (arith, h .aim .near)) in
           record {
             value = gives-as (sym (pass-goes before from (Some goal) t forward ∙ onward-rings before goal t (place-before m goal t (omega (arith, r .2)))))
-                (record { answered = refl; clocked = same-place m o clock′ goal home; timed = ap (λ (d : Option A). chain-due before d goal) (r .1) });
+                (record { answered = refl; clocked = same-place m o clock′ goal home; timed = ap (λ (d : Option A). goal-due before d goal) (r .1) });
             count = (omega (arith, stages), omega (arith, stages, few-stages (place clock′ - place from) reach reaching));
           }
 
@@ -118,9 +118,9 @@ module _ {A : Type 0} {before : A → A → Bool} {place : A → ℕ} {at : ℕ 
           let r = rested arrived in
           let there : place clock′ ≡ place t = ap place (r .0) in
           let stages = since clock′ (⊎-elim inl (λ (b : (place clock < place t) × (place clock < place goal)). inr (omega (arith, b .0))) (h .short)) (omega (arith, r .2, h .aim .near)) in
-          let kept : chain-due before (Some (h .stage)) goal ≡ Some goal = cond-false (before goal (h .stage)) _ _ (place-not-before m goal (h .stage) (h .aim .within)) in
+          let kept : goal-due before (Some (h .stage)) goal ≡ Some goal = cond-false (before goal (h .stage)) _ _ (place-not-before m goal (h .stage) (h .aim .within)) in
           record {
             value = gives-as (sym (pass-goes before from (Some goal) t forward ∙ onward-arrives before goal t (place-not-before m goal t (omega (arith, r .2, h .aim .within)))))
-                (record { answered = refl; clocked = r .0; timed = ap (λ (d : Option A). chain-due before d goal) (r .1) ∙ kept });
+                (record { answered = refl; clocked = r .0; timed = ap (λ (d : Option A). goal-due before d goal) (r .1) ∙ kept });
             count = (sym stages, omega (arith, stages, few-stages (place clock′ - place from) reach reaching));
           }

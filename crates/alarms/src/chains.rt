@@ -1,11 +1,10 @@
 // The chain makes an alarm of a short one: it goes for its goal stage by stage.
 ghost use mathlib.Core.Path.{_≡_};
 ghost use mathlib.Core.Bool.{false};
-ghost use Prim.Native.Nat.{_-_};
 ghost use Rattle.std.specs.declared.option.Option.the-variants.{None, Some};
 ghost use Rattle.times.specs.Places.{Measure, capped};
-ghost use Rattle.alarms.specs.Chains.{Counted, chain-due, stage-to, uncounted};
-ghost use Rattle.alarms.specs.Meaning.{Gives, pass-to, set-to};
+ghost use Rattle.alarms.specs.Chains.{Counted, chain-clock, chain-due, goal-due, moved, stage-to, uncounted};
+ghost use Rattle.alarms.specs.Meaning.{Gives, Passes, Sets, pass-to};
 use crate::faults::AlarmFault;
 use crate::faults::Passage;
 use crate::meaning::Alarm;
@@ -22,7 +21,7 @@ pub struct ChainedAlarm<T, S> {
 
 // Sets the short alarm to the goal, or as far ahead as it reaches if the goal is further.
 fn aim<T: Measured, S: ShortAlarm<T>>(short: &mut S, goal: T) -> Result<(), AlarmFault>
-    ensures value { λ r. ⌜ Gives (set-to (T·Time .before) (S·ShortAlarm .clock (now (short .entry))) (S·ShortAlarm .due (now (short .entry))) (stage-to (T·Time .before) (capped (T·Measured .place) (T·Measured .at) (T·Measured .last) (S·ShortAlarm .clock (now (short .entry))) (S·ShortAlarm .reach)) goal)) r (S·ShortAlarm .clock (now (short .exit))) (S·ShortAlarm .due (now (short .exit))) ⌝ }
+    ensures value { λ r. ⌜ Sets (T·Time .before) (S·ShortAlarm .clock) (S·ShortAlarm .due) (now (short .entry)) (now (short .exit)) (stage-to (T·Time .before) (capped (T·Measured .place) (T·Measured .at) (T·Measured .last) (S·ShortAlarm .clock (now (short .entry))) (S·ShortAlarm .reach)) goal) r ⌝ }
     ensures measure { λ _. ⌜ Measure (T·Time .before) (T·Measured .place) (T·Measured .at) (T·Measured .last) ⌝ }
 {
     let furthest = short.clock().ahead(S::reach());
@@ -40,8 +39,8 @@ fn follow<T: Measured, S: ShortAlarm<T>>(
 ) -> Result<(Passage, u64), AlarmFault>
     requires forward { ⌜ T·Time .before t (S·ShortAlarm .clock (now short)) ≡ false ⌝ }
     requires ahead { ⌜ T·Time .before goal (S·ShortAlarm .clock (now short)) ≡ false ⌝ }
-    ensures value { λ r. ⌜ Gives (pass-to (T·Time .before) (S·ShortAlarm .clock (now (short .entry))) (Some goal) t) (uncounted r) (S·ShortAlarm .clock (now (short .exit))) (chain-due (T·Time .before) (S·ShortAlarm .due (now (short .exit))) goal) ⌝ }
-    ensures count { λ r. ⌜ Counted (S·ShortAlarm .reach) (Some goal) (T·Measured .place (S·ShortAlarm .clock (now (short .exit))) - T·Measured .place (S·ShortAlarm .clock (now (short .entry)))) r ⌝ }
+    ensures value { λ r. ⌜ Gives (pass-to (T·Time .before) (S·ShortAlarm .clock (now (short .entry))) (Some goal) t) (uncounted r) (S·ShortAlarm .clock (now (short .exit))) (goal-due (T·Time .before) (S·ShortAlarm .due (now (short .exit))) goal) ⌝ }
+    ensures count { λ r. ⌜ Counted (S·ShortAlarm .reach) (Some goal) (moved (T·Measured .place) (S·ShortAlarm .clock) (now (short .entry)) (now (short .exit))) r ⌝ }
 {
     aim(short, goal)?;
     let mut rings = 0;
@@ -57,8 +56,8 @@ fn follow<T: Measured, S: ShortAlarm<T>>(
 
 impl<T: Measured, S: ShortAlarm<T>> ChainedAlarm<T, S> {
     pub fn new(mut short: S) -> Self
-        ensures clock { λ r. ⌜ S·ShortAlarm .clock (r .short) ≡ S·ShortAlarm .clock short ⌝ }
-        ensures due { λ r. ⌜ chain-due (T·Time .before) (S·ShortAlarm .due (r .short)) (r .goal) ≡ None ⌝ }
+        ensures clock { λ r. ⌜ chain-clock (S·ShortAlarm .clock) r ≡ S·ShortAlarm .clock short ⌝ }
+        ensures due { λ r. ⌜ chain-due (T·Time .before) (S·ShortAlarm .due) r ≡ None ⌝ }
     {
         short.clear();
         let goal = short.clock();
@@ -67,8 +66,8 @@ impl<T: Measured, S: ShortAlarm<T>> ChainedAlarm<T, S> {
 
     // Passes to `t`, and answers also how often the short alarm rang.
     pub fn pass_counted(&mut self, t: T) -> Result<(Passage, u64), AlarmFault>
-        ensures value { λ r. ⌜ Gives (pass-to (T·Time .before) (S·ShortAlarm .clock (now (self .entry) .short)) (chain-due (T·Time .before) (S·ShortAlarm .due (now (self .entry) .short)) (now (self .entry) .goal)) t) (uncounted r) (S·ShortAlarm .clock (now (self .exit) .short)) (chain-due (T·Time .before) (S·ShortAlarm .due (now (self .exit) .short)) (now (self .exit) .goal)) ⌝ }
-        ensures count { λ r. ⌜ Counted (S·ShortAlarm .reach) (chain-due (T·Time .before) (S·ShortAlarm .due (now (self .entry) .short)) (now (self .entry) .goal)) (T·Measured .place (S·ShortAlarm .clock (now (self .exit) .short)) - T·Measured .place (S·ShortAlarm .clock (now (self .entry) .short))) r ⌝ }
+        ensures value { λ r. ⌜ Passes (T·Time .before) (chain-clock (S·ShortAlarm .clock)) (chain-due (T·Time .before) (S·ShortAlarm .due)) (now (self .entry)) (now (self .exit)) t (uncounted r) ⌝ }
+        ensures count { λ r. ⌜ Counted (S·ShortAlarm .reach) (chain-due (T·Time .before) (S·ShortAlarm .due) (now (self .entry))) (moved (T·Measured .place) (chain-clock (S·ShortAlarm .clock)) (now (self .entry)) (now (self .exit))) r ⌝ }
     {
         if t.before(self.short.clock()) {
             return Err(AlarmFault::BeforeClock);
@@ -84,9 +83,9 @@ impl<T: Measured, S: ShortAlarm<T>> ChainedAlarm<T, S> {
 }
 
 pub impl<T: Measured, S: ShortAlarm<T>> Alarm<T> for ChainedAlarm<T, S> as ChainedAlarmAlarm {
-    ghost clock = { λ a. S·ShortAlarm .clock (a .short) };
+    ghost clock = { chain-clock (S·ShortAlarm .clock) };
 
-    ghost due = { λ a. chain-due (T·Time .before) (S·ShortAlarm .due (a .short)) (a .goal) };
+    ghost due = { chain-due (T·Time .before) (S·ShortAlarm .due) };
 
     fn clock(&self) -> T {
         self.short.clock()
