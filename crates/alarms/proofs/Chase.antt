@@ -3,7 +3,7 @@ use mathlib.Core.Path.{_≡_, refl, sym, ap, subst, _∙_}
 use mathlib.Core.Bool.{Bool, true, false}
 use mathlib.Core.Logic.{_⊎_, inl, inr, ⊎-elim}
 use Prim.Native.Nat.{ℕ, _+_, _-_, _*_, _/_, _^_, _<_, _≤_}
-use native.Mathlib.Nat.{add-mul}
+use native.Mathlib.Nat.{add-mul, zero-mul}
 use native.Mathlib.Omega.{arith}
 use Rattle.std.proofs.shelf.Bits.{mul-le}
 use Rattle.std.proofs.shelf.Tests.{cases-bool, cond-false}
@@ -21,7 +21,7 @@ use Rattle.alarms.specs.declared.faults.Passage.{Passage}
 use Rattle.alarms.specs.declared.faults.Passage.the-variants.{Rang, Arrived}
 use Rattle.alarms.proofs.Outcomes.{gives-as, onward-arrives, onward-rings, pass-goes}
 use Rattle.alarms.proofs.RingCounts.{few-stages, full-stages}
-use Rattle.alarms.proofs.Stages.{Aimed, aim-accepted, aimed}
+use Rattle.alarms.proofs.Aims.{Aimed, aim-accepted, aimed}
 
 pub record Chase {A : Type 0} (place : A → ℕ) (reach start : ℕ) (goal t clock : A) (due : Option A) (rings : ℕ) : Type 0 where
   pub stage : A
@@ -35,6 +35,21 @@ pub record Chase {A : Type 0} (place : A → ℕ) (reach start : ℕ) (goal t cl
 pub record Ended {A : Type 0} (before : A → A → Bool) (place : A → ℕ) (reach : ℕ) (from goal t clock : A) (due : Option A) (passage : Passage) (rings : ℕ) : Type 0 where
   pub value : Gives (pass-to before from (Some goal) t) (Ok passage) clock (goal-due before due goal)
   pub count : Counted reach (Some goal) (place clock - place from) (Ok (passage, rings))
+
+module _ {A : Type 0} {before : A → A → Bool} {place : A → ℕ} {at : ℕ → Option A} {last : A} (m : Measure before place at last) (reach : ℕ) (goal t clock : A) (due : Option A) (forward : before t clock ≡ false) (ahead : before goal clock ≡ false) where
+  module _ {answer : Result (Unit {0}) AlarmFault} {clock′ : A} {due′ : Option A} (set : Gives (set-to before clock due (stage-to before (capped place at last clock reach) goal)) answer clock′ due′) where
+    pub chase-begins : Chase place reach (place clock′) goal t clock′ due′ 0
+    chase-begins =
+        let s = aim-accepted m reach clock goal ahead due set in
+        let here : place clock′ ≡ place clock = ap place (s .clocked) in
+        record {
+          stage = stage-to before (capped place at last clock reach) goal;
+          set = s .timed;
+          aim = subst (λ (c : A). Aimed place reach c goal (stage-to before (capped place at last clock reach) goal)) (sym (s .clocked)) (aimed m reach clock goal ahead);
+          stages = omega (arith, zero-mul reach);
+          forward = omega (arith, not-before-place m t clock forward);
+          short = inl refl;
+        }
 
 module _ {A : Type 0} {before : A → A → Bool} {place : A → ℕ} {at : ℕ → Option A} {last : A} (m : Measure before place at last) (o : StrictOrder before) {reach start : ℕ} (reaching : 0 < reach) {goal t clock : A} {due : Option A} {rings : ℕ} (h : Chase place reach start goal t clock due rings) where
   -- the stages up to an end within reach of the clock
@@ -96,6 +111,9 @@ module _ {A : Type 0} {before : A → A → Bool} {place : A → ℕ} {at : ℕ 
               forward = omega (arith, r .2);
               short = inr (omega (arith, r .2), omega arith);
             }
+
+        pub chase-falls : place t - place clock″ < place t - place clock
+        chase-falls = omega (arith, h .stages, chase-on .stages, add-mul rings 1 reach, reaching, chase-on .forward)
 
     module _ (from : A) (begun : start ≡ place from) (forward : before t from ≡ false) where
       since : (end : A) → (rings ≡ 0) ⊎ (place clock < place end) → place end ≤ place clock + reach → (place end - place from - 1) / reach ≡ rings

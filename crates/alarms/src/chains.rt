@@ -1,14 +1,15 @@
 // The chain makes an alarm of a short one: it goes for its goal stage by stage.
 ghost use mathlib.Core.Path.{_≡_};
-ghost use mathlib.Core.Bool.{false};
-ghost use Rattle.std.specs.declared.option.Option.the-variants.{None, Some};
-ghost use Rattle.times.specs.Places.{Measure, capped};
-ghost use Rattle.alarms.specs.Chains.{Counted, chain-clock, chain-due, goal-due, moved, stage-to, uncounted};
-ghost use Rattle.alarms.specs.Meaning.{Gives, Passes, Sets, pass-to};
+ghost use Rattle.std.specs.declared.option.Option.the-variants.{None};
+ghost use Rattle.alarms.specs.Chains.{Counted, chain-clock, chain-due, moved, uncounted};
+ghost use Rattle.alarms.specs.Meaning.{Passes};
 use crate::faults::AlarmFault;
 use crate::faults::Passage;
 use crate::meaning::Alarm;
 use crate::short::ShortAlarm;
+use crate::stages::aim;
+use crate::stages::follow;
+use crate::stages::pass_silent;
 use times::Measured;
 use times::Time;
 
@@ -19,49 +20,17 @@ pub struct ChainedAlarm<T, S> {
     goal: T,
 }
 
-// Sets the short alarm to the goal, or as far ahead as it reaches if the goal is further.
-fn aim<T: Measured, S: ShortAlarm<T>>(short: &mut S, goal: T) -> Result<(), AlarmFault>
-    ensures value { λ r. ⌜ Sets (T·Time .before) (S·ShortAlarm .clock) (S·ShortAlarm .due) (now (short .entry)) (now (short .exit)) (stage-to (T·Time .before) (capped (T·Measured .place) (T·Measured .at) (T·Measured .last) (S·ShortAlarm .clock (now (short .entry))) (S·ShortAlarm .reach)) goal) r ⌝ }
-    ensures measure { λ _. ⌜ Measure (T·Time .before) (T·Measured .place) (T·Measured .at) (T·Measured .last) ⌝ }
-{
-    let furthest = short.clock().ahead(S::reach());
-    if furthest.before(goal) {
-        return short.set(furthest);
-    }
-    short.set(goal)
-}
-
-// Passes the short alarm to `t`, or to the goal if that comes first, and counts its rings.
-fn follow<T: Measured, S: ShortAlarm<T>>(
-    short: &mut S,
-    goal: T,
-    t: T,
-) -> Result<(Passage, u64), AlarmFault>
-    requires forward { ⌜ T·Time .before t (S·ShortAlarm .clock (now short)) ≡ false ⌝ }
-    requires ahead { ⌜ T·Time .before goal (S·ShortAlarm .clock (now short)) ≡ false ⌝ }
-    ensures value { λ r. ⌜ Gives (pass-to (T·Time .before) (S·ShortAlarm .clock (now (short .entry))) (Some goal) t) (uncounted r) (S·ShortAlarm .clock (now (short .exit))) (goal-due (T·Time .before) (S·ShortAlarm .due (now (short .exit))) goal) ⌝ }
-    ensures count { λ r. ⌜ Counted (S·ShortAlarm .reach) (Some goal) (moved (T·Measured .place) (S·ShortAlarm .clock) (now (short .entry)) (now (short .exit))) r ⌝ }
-{
-    aim(short, goal)?;
-    let mut rings = 0;
-    'stages: while let Passage::Rang = short.pass(t)? {
-        rings += 1;
-        if !short.clock().before(goal) {
-            return Ok((Passage::Rang, rings));
-        }
-        aim(short, goal)?;
-    }
-    Ok((Passage::Arrived, rings))
-}
-
 impl<T: Measured, S: ShortAlarm<T>> ChainedAlarm<T, S> {
-    pub fn new(mut short: S) -> Self
-        ensures clock { λ r. ⌜ chain-clock (S·ShortAlarm .clock) r ≡ S·ShortAlarm .clock short ⌝ }
+    pub fn new(mut device: S) -> Self
+        ensures clock { λ r. ⌜ chain-clock (S·ShortAlarm .clock) r ≡ S·ShortAlarm .clock device ⌝ }
         ensures due { λ r. ⌜ chain-due (T·Time .before) (S·ShortAlarm .due) r ≡ None ⌝ }
     {
-        short.clear();
-        let goal = short.clock();
-        ChainedAlarm { short, goal }
+        device.clear();
+        let goal = device.clock();
+        ChainedAlarm {
+            short: device,
+            goal,
+        }
     }
 
     // Passes to `t`, and answers also how often the short alarm rang.
@@ -74,10 +43,7 @@ impl<T: Measured, S: ShortAlarm<T>> ChainedAlarm<T, S> {
         }
         match self.due() {
             Some(goal) => follow(&mut self.short, goal, t),
-            None => {
-                self.short.clear();
-                Ok((self.short.pass(t)?, 0))
-            }
+            None => Ok((pass_silent(&mut self.short, t)?, 0)),
         }
     }
 }

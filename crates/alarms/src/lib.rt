@@ -7,6 +7,7 @@ mod low_bit_matchers;
 mod low_bits;
 mod meaning;
 mod short;
+mod stages;
 mod steps;
 
 pub use chains::ChainedAlarm;

@@ -4,9 +4,12 @@ use Prim.Native.Nat.{ℕ}
 use native.Mathlib.Omega.{arith}
 use borrow.Author.Needs.{needs}
 use Rattle.std.specs.declared.result.Result.the-variants.{Ok}
-use Rattle.alarms.proofs.Chase.{arrived-at-t, chase-on, few-rings, rang-at-goal, set-anew}
-use Rattle.alarms.proofs.Stages.{aim-accepted}
-use Rattle.alarms.proofs.chains.follow.Needs as need
+use Rattle.alarms.proofs.Chase.{arrived-at-t, chase-begins, chase-falls, chase-on, few-rings, rang-at-goal, set-anew}
+use Rattle.alarms.proofs.Aims.{aim-accepted}
+use Rattle.alarms.proofs.stages.follow.Needs as need
+
+pub stages-holds : need.stages-holds
+stages-holds g c = chase-begins (c .aim .ensures .measure) (g .S·ShortAlarm .reach) (c .args .goal) (c .args .t) _ _ (c .pre .forward) (c .pre .ahead) (c .aim .ensures .value)
 
 pub add-rings : need.add-rings
 add-rings g c =
@@ -28,6 +31,12 @@ stages-again g c =
     let rang = c .in-Continue-pass .was tt ∙ ap Ok (c .in-Rang .is) in
     let short : g .T·Time .before (g .S·ShortAlarm .clock (c .pass .last .self)) (c .args .goal) ≡ true = cc in
     chase-on (c .aim .ensures .measure) (g .T·Time·met .ordered) (g .S·ShortAlarm·met .reaching) (c .stages .inv) (c .pass .ensures) rang short (c .aim-in-Rang .ensures .value)
+
+pub stages-less : need.stages-less
+stages-less g c =
+    let rang = c .in-Continue-pass .was tt ∙ ap Ok (c .in-Rang .is) in
+    let short : g .T·Time .before (g .S·ShortAlarm .clock (c .pass .last .self)) (c .args .goal) ≡ true = cc in
+    chase-falls (c .aim .ensures .measure) (g .T·Time·met .ordered) (g .S·ShortAlarm·met .reaching) (c .stages .inv) (c .pass .ensures) rang short (c .aim-in-Rang .ensures .value)
 
 -- an aim short of the goal is not refused
 pub returns-in-Break-aim-2 : need.returns-in-Break-aim-2

@@ -1,6 +1,6 @@
 use Prim.Native.Nat.{_-_}
 use Rattle.alarms.proofs.Chase.{Chase}
-use Rattle.alarms.proofs.chains.follow.Given as given
+use Rattle.alarms.proofs.stages.follow.Given as given
 
 abbrev pub Inv-stages : given.InvT-stages
 Inv-stages g l =
