@@ -1,1 +1,5 @@
+pub mod Aims
+pub mod Chase
 pub mod Matches
+pub mod Outcomes
+pub mod RingCounts

@@ -1,3 +1,4 @@
+pub mod Chains
 pub mod Comparators
 pub mod Countdown
 pub mod Faults

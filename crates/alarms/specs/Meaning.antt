@@ -56,3 +56,18 @@ module _ {A : Type 0} (before : A → A → Bool) where
 
   abbrev pub pass-to : A → Option A → A → Outcome (Result Passage AlarmFault) A
   pass-to clock due t = cond (before t clock) (refused BeforeClock clock due) (onward due t)
+
+  -- the same of a device, by the clock and the due time of its old and its new state
+  module _ {S : Type 0} (clock : S → A) (due : S → Option A) (old new : S) where
+    abbrev pub Sets : A → Result (Unit {0}) AlarmFault → Type 0
+    Sets t answer = Gives (set-to (clock old) (due old) t) answer (clock new) (due new)
+
+    abbrev pub SetsWithin : (A → ℕ) → ℕ → A → Result (Unit {0}) AlarmFault → Type 0
+    SetsWithin place reach t answer = Gives (set-within place reach (clock old) (due old) t) answer (clock new) (due new)
+
+    abbrev pub Passes : A → Result Passage AlarmFault → Type 0
+    Passes t answer = Gives (pass-to (clock old) (due old) t) answer (clock new) (due new)
+
+pub record Clears {S A : Type 0} (clock : S → A) (due : S → Option A) (old new : S) : Type 0 where
+  pub clocked : clock new ≡ clock old
+  pub timed : due new ≡ None

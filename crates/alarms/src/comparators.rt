@@ -8,7 +8,7 @@ use crate::meaning::Alarm;
 use crate::steps::ring_before;
 use times::Time;
 
-#[derive(Clone, Copy)]
+#[derive(Drop)]
 pub struct Comparator<T> {
     clock: T,
     compare: Option<T>,

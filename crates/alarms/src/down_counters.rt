@@ -12,7 +12,7 @@ use times::Time;
 
 const REACH: u16 = 65_535;
 
-#[derive(Clone, Copy)]
+#[derive(Drop)]
 pub struct DownCounter<T> {
     clock: T,
     // None while it stands still

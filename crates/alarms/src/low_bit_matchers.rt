@@ -15,7 +15,7 @@ use times::Time;
 
 const REACH: u16 = 4_095;
 
-#[derive(Clone, Copy)]
+#[derive(Drop)]
 pub struct LowBitMatcher<T> {
     clock: T,
     // None while it matches nothing

@@ -1,8 +1,7 @@
 // An alarm wakes the processor at its due time.
 ghost use mathlib.Core.Path.{_≡_};
 ghost use Rattle.std.specs.declared.option.Option.{Option};
-ghost use Rattle.std.specs.declared.option.Option.the-variants.{None};
-ghost use Rattle.alarms.specs.Meaning.{Gives, NotPast, pass-to, set-to};
+ghost use Rattle.alarms.specs.Meaning.{Clears, NotPast, Passes, Sets};
 use crate::faults::AlarmFault;
 use crate::faults::Passage;
 use times::Time;
@@ -20,12 +19,11 @@ pub trait Alarm<T: Time> {
         ensures ahead { λ r. ⌜ NotPast (T·Time .before) (clock (now (self .entry))) r ⌝ };
 
     fn set(&mut self, t: T) -> Result<(), AlarmFault>
-        ensures { λ r. ⌜ Gives (set-to (T·Time .before) (clock (now (self .entry))) (due (now (self .entry))) t) r (clock (now (self .exit))) (due (now (self .exit))) ⌝ };
+        ensures { λ r. ⌜ Sets (T·Time .before) clock due (now (self .entry)) (now (self .exit)) t r ⌝ };
 
     fn clear(&mut self)
-        ensures clock { λ _. ⌜ clock (now (self .exit)) ≡ clock (now (self .entry)) ⌝ }
-        ensures due { λ _. ⌜ due (now (self .exit)) ≡ None ⌝ };
+        ensures { λ _. ⌜ Clears clock due (now (self .entry)) (now (self .exit)) ⌝ };
 
     fn pass(&mut self, t: T) -> Result<Passage, AlarmFault>
-        ensures { λ r. ⌜ Gives (pass-to (T·Time .before) (clock (now (self .entry))) (due (now (self .entry))) t) r (clock (now (self .exit))) (due (now (self .exit))) ⌝ };
+        ensures { λ r. ⌜ Passes (T·Time .before) clock due (now (self .entry)) (now (self .exit)) t r ⌝ };
 }

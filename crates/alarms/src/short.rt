@@ -2,8 +2,7 @@
 ghost use mathlib.Core.Path.{_≡_};
 ghost use Prim.Native.Nat.{ℕ, _<_};
 ghost use Rattle.std.specs.declared.option.Option.{Option};
-ghost use Rattle.std.specs.declared.option.Option.the-variants.{None};
-ghost use Rattle.alarms.specs.Meaning.{Gives, NotPast, pass-to, set-within};
+ghost use Rattle.alarms.specs.Meaning.{Clears, NotPast, Passes, SetsWithin};
 use crate::faults::AlarmFault;
 use crate::faults::Passage;
 use times::Measured;
@@ -15,9 +14,10 @@ pub trait ShortAlarm<T: Measured> {
 
     ghost reach: { ℕ };
 
+    law reaching: { 0 < reach };
+
     fn reach() -> u32
-        ensures value { λ r. ⌜ r ≡ reach ⌝ }
-        ensures some { λ r. ⌜ 0 < r ⌝ };
+        ensures { λ r. ⌜ r ≡ reach ⌝ };
 
     fn clock(&self) -> T
         ensures { λ r. ⌜ r ≡ clock (now (self .entry)) ⌝ };
@@ -27,12 +27,11 @@ pub trait ShortAlarm<T: Measured> {
         ensures ahead { λ r. ⌜ NotPast (T·Time .before) (clock (now (self .entry))) r ⌝ };
 
     fn set(&mut self, t: T) -> Result<(), AlarmFault>
-        ensures { λ r. ⌜ Gives (set-within (T·Time .before) (T·Measured .place) reach (clock (now (self .entry))) (due (now (self .entry))) t) r (clock (now (self .exit))) (due (now (self .exit))) ⌝ };
+        ensures { λ r. ⌜ SetsWithin (T·Time .before) clock due (now (self .entry)) (now (self .exit)) (T·Measured .place) reach t r ⌝ };
 
     fn clear(&mut self)
-        ensures clock { λ _. ⌜ clock (now (self .exit)) ≡ clock (now (self .entry)) ⌝ }
-        ensures due { λ _. ⌜ due (now (self .exit)) ≡ None ⌝ };
+        ensures { λ _. ⌜ Clears clock due (now (self .entry)) (now (self .exit)) ⌝ };
 
     fn pass(&mut self, t: T) -> Result<Passage, AlarmFault>
-        ensures { λ r. ⌜ Gives (pass-to (T·Time .before) (clock (now (self .entry))) (due (now (self .entry))) t) r (clock (now (self .exit))) (due (now (self .exit))) ⌝ };
+        ensures { λ r. ⌜ Passes (T·Time .before) clock due (now (self .entry)) (now (self .exit)) t r ⌝ };
 }
