@@ -13,6 +13,10 @@ use crate::faults::LineFault;
 use crate::frame_bytes::FrameBytes;
 use crate::hex::digit;
 
+// How many characters a line of a frame has, at most and at least.
+const LONGEST: usize = 128;
+const SHORTEST: usize = 4;
+
 // The byte that two characters spell.
 fn byte(high: u8, low: u8) -> Result<u8, LineFault>
     ensures { λ r. ⌜ r ≡ okOr (pair (value high) (value low)) NotHex ⌝ }
@@ -49,10 +53,10 @@ fn ends_in_check(bytes: &[u8]) -> bool
 pub fn decode(line: &[u8]) -> Result<FrameBytes, LineFault>
     ensures { λ r. ⌜ held-in r ≡ line-bytes (now (line .entry)) ⌝ }
 {
-    if line.len() > 128 {
+    if line.len() > LONGEST {
         return Err(LineFault::TooLong);
     }
-    if line.len() < 4 || line.len() % 2 == 1 {
+    if line.len() < SHORTEST || line.len() % 2 == 1 {
         return Err(LineFault::BadCount);
     }
     let frame = unhex(line)?;

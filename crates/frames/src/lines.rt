@@ -7,6 +7,9 @@ ghost use Prim.Native.Nat.{ℕ, _<_, _≤_};
 ghost use Rattle.frames.specs.Lines.{kept, keeping, cut-lines, Took, handed, ended, Split};
 use crate::line::Line;
 
+// How many bytes of a line are kept.
+const KEPT: usize = 129;
+
 // What has come of a line that has not ended yet.
 #[derive(Clone, Copy)]
 pub struct LineSplitter {
@@ -31,7 +34,7 @@ fn keep(line: &mut Line, byte: u8)
     ensures { λ _. ⌜ kept (now (line .exit)) ≡ keeping (kept (now (line .entry)) ++ byte ∷ []) ⌝ }
 {
     let at = line.len;
-    if at < 129 {
+    if at < KEPT {
         line.bytes[at] = byte;
         line.len = at + 1;
     }

@@ -14,11 +14,11 @@ use Rattle.frames.proofs.LineForm.{too-long, bad-count, not-hex, bad-check, we
 use Rattle.frames.proofs.Spelling.{some-from-ok, none-from-err}
 use Rattle.frames.proofs.decode.decode.Needs as need
 
-pub returns-then-line-gt128 : need.returns-then-line-gt128
-returns-then-line-gt128 c = sym (too-long (c .args .line .now) (omega arith))
+pub returns-then-line-gt-LONGEST : need.returns-then-line-gt-LONGEST
+returns-then-line-gt-LONGEST c = sym (too-long (c .args .line .now) (omega arith))
 
-pub returns-then-line-lt4 : need.returns-then-line-lt4
-returns-then-line-lt4 c =
+pub returns-then-line-lt-SHORTEST : need.returns-then-line-lt-SHORTEST
+returns-then-line-lt-SHORTEST c =
     let t : counted (length (c .args .line .now)) ≡ true = grind (arith, tells) in
     sym (bad-count (c .args .line .now) (omega arith) t)
 
