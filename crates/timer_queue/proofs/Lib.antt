@@ -17,3 +17,7 @@ pub mod Points
 pub mod Going
 pub mod Listing
 pub mod Refuted
+pub mod Popping
+pub mod Progress
+pub mod Numbering
+pub mod Outcomes

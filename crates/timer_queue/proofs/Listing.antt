@@ -27,7 +27,7 @@ use Rattle.timer_queue.proofs.Sorting.{Differ, sorted-alike}
 
 module _ {A : Type 0} (before : A → A → Bool) (o : StrictOrder before) where
   -- by time, and where that is one, by number
-  abbrev lex : A × ℕ → A × ℕ → Bool
+  abbrev pub lex : A × ℕ → A × ℕ → Bool
   lex p q = before (p .0) (q .0) || (same before (p .0) (q .0) && ltb (p .1) (q .1))
 
   lex-second : (p q : A × ℕ) → p .0 ≡ q .0 → ltb (p .1) (q .1) ≡ true → lex p q ≡ true
@@ -59,7 +59,7 @@ module _ {A : Type 0} (before : A → A → Bool) (o : StrictOrder before) where
       λ m n i z. ap (λ s. s && ltb (m .1) (n .1)) (sym (ap (λ x. same before x (n .0)) i ∙ same-itself before o (n .0))) ∙ z in
       ap₂ {C = A × ℕ} (λ x n. (x, n)) e (number-order .connected (p .1) (q .1) (second p q e (a .1)) (second q p (sym e) (b .1)))
 
-  lex-order : StrictOrder lex
+  pub lex-order : StrictOrder lex
   lex-order = record {
     irreflexive = λ p. or-from (before (p .0) (p .0)) (same before (p .0) (p .0) && ltb (p .1) (p .1)) (o .irreflexive (p .0))
         (and-right (same before (p .0) (p .0)) (ltb (p .1) (p .1)) (number-order .irreflexive (p .1)));
@@ -67,10 +67,10 @@ module _ {A : Type 0} (before : A → A → Bool) (o : StrictOrder before) where
     connected = lex-connected;
   }
 
-  abbrev key : Timer A → A × ℕ
+  abbrev pub key : Timer A → A × ℕ
   key x = (x .soft, x .number)
 
-  keys-differ : (xs : List (Timer A)) → Distinct xs → Pairwise (Differ key lex lex-order) xs
+  pub keys-differ : (xs : List (Timer A)) → Distinct xs → Pairwise (Differ key lex lex-order) xs
   keys-differ =
       pairwise-weaker (λ x y. eqb (x .number) (y .number) ≡ false) (Differ key lex lex-order)
       (λ x y h e. both-ways (eqb (x .number) (y .number)) h (eq-eqb (x .number) (y .number) (ap (λ k. k .1) e)))

@@ -12,3 +12,4 @@ pub mod Timers
 pub mod WakeUps
 pub mod Readings
 pub mod Trials
+pub mod Views
