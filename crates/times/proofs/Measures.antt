@@ -20,16 +20,16 @@ measure order agrees places = record { order = order; agrees = agrees; places = 
 
 module _ {A : Type 0} {before : A → A → Bool} {place : A → ℕ} {at : ℕ → Option A} {last : A} (m : Measure before place at last) where
   pub before-place : (a b : A) → before a b ≡ true → place a < place b
-  before-place a b e = ltb-true (place a) (place b) (sym (m .agrees a b) ∙ e)
+  before-place a b e = ltb-true (place a) (place b) (sym (m .agrees .ordered a b) ∙ e)
 
   pub not-before-place : (a b : A) → before a b ≡ false → place b ≤ place a
-  not-before-place a b e = ltb-false (place a) (place b) (sym (m .agrees a b) ∙ e)
+  not-before-place a b e = ltb-false (place a) (place b) (sym (m .agrees .ordered a b) ∙ e)
 
   pub place-before : (a b : A) → place a < place b → before a b ≡ true
-  place-before a b h = m .agrees a b ∙ lt-ltb (place a) (place b) h
+  place-before a b h = m .agrees .ordered a b ∙ lt-ltb (place a) (place b) h
 
   pub place-not-before : (a b : A) → place b ≤ place a → before a b ≡ false
-  place-not-before a b h = m .agrees a b ∙ le-ltb (place a) (place b) h
+  place-not-before a b h = m .agrees .ordered a b ∙ le-ltb (place a) (place b) h
 
   pub same-place : (a b : A) → place a ≡ place b → a ≡ b
   same-place a b e = m .order .connected a b (place-not-before a b (omega arith)) (place-not-before b a (omega arith))

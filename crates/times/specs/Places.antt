@@ -27,5 +27,5 @@ pub record Places {A : Type 0} (place : A → ℕ) (at : ℕ → Option A) (last
   pub fits : place last < 2 ^ 64
 
 -- `before` is the order of the places
-abbrev pub Agrees : {A : Type 0} → (A → A → Bool) → (A → ℕ) → Type 0
-Agrees {A} before place = (a b : A) → before a b ≡ earlier place a b
+pub record Agrees {A : Type 0} (before : A → A → Bool) (place : A → ℕ) : Type 0 where
+  pub ordered : (a b : A) → before a b ≡ earlier place a b

@@ -5,4 +5,4 @@ use Rattle.times.proofs.day_ticks.kind.DayTickMeasured.checked_ahead.Needs as 
 pub returns : need.returns
 returns c =
     let carried = c .carry-day .ensures in
-    record { value = sym (day-tick-made _ _ _ (carried .day) (carried .tick)); agrees = λ a b. refl }
+    record { value = sym (day-tick-made _ _ _ (carried .day) (carried .tick)); agrees = record { ordered = λ a b. refl } }
