@@ -9,8 +9,8 @@ use Rattle.std.specs.Options.{valueOr}
 use Rattle.std.specs.declared.option.Option.{Option}
 use Rattle.std.specs.declared.option.Option.the-variants.{Some, None}
 use Rattle.std.specs.declared.result.Result.{Result}
-use Rattle.times.specs.Places.{Measure, capped}
-use Rattle.times.proofs.Measures.{before-place, not-before-place, place-not-before}
+use Rattle.times.specs.Places.{capped}
+use Rattle.times.proofs.Measures.{Measure, before-place, not-before-place, place-not-before}
 use Rattle.alarms.specs.Chains.{stage-to}
 use Rattle.alarms.specs.Meaning.{Gives, accepted, set-to}
 use Rattle.alarms.specs.declared.faults.AlarmFault.{AlarmFault}
@@ -27,10 +27,10 @@ module _ {A : Type 0} {before : A → A → Bool} {place : A → ℕ} {at : ℕ 
   from-reach : (furthest : Option A) → at (place clock + reach) ≡ furthest → Aimed place reach clock goal (stage-to before (valueOr furthest last) goal)
   from-reach None e =
       cond-both (before last goal) last goal (Aimed place reach clock goal)
-      (λ b. absurd (omega (arith, before-place m last goal b, m .bounded goal)))
-      (λ b. record { onward = not-before-place m goal clock ahead; within = omega arith; near = omega (arith, m .past (place clock + reach) e, m .bounded goal); whole = inl refl })
+      (λ b. absurd (omega (arith, before-place m last goal b, m .places .bounded goal)))
+      (λ b. record { onward = not-before-place m goal clock ahead; within = omega arith; near = omega (arith, m .places .past (place clock + reach) e, m .places .bounded goal); whole = inl refl })
   from-reach (Some f) e =
-      let there = m .found (place clock + reach) f e in
+      let there = m .places .found (place clock + reach) f e in
       cond-both (before f goal) f goal (Aimed place reach clock goal)
       (λ b. record { onward = omega arith; within = omega (arith, before-place m f goal b); near = omega arith; whole = inr there })
       (λ b. record { onward = not-before-place m goal clock ahead; within = omega arith; near = omega (arith, not-before-place m f goal b); whole = inl refl })

@@ -11,9 +11,8 @@ use Rattle.std.specs.declared.option.Option.{Option}
 use Rattle.std.specs.declared.option.Option.the-variants.{Some, None}
 use Rattle.std.specs.declared.result.Result.{Result}
 use Rattle.std.specs.declared.result.Result.the-variants.{Ok}
-use Rattle.times.specs.Order.{StrictOrder}
-use Rattle.times.specs.Places.{Measure, capped}
-use Rattle.times.proofs.Measures.{before-place, not-before-place, place-before, place-not-before, same-place}
+use Rattle.times.specs.Places.{capped}
+use Rattle.times.proofs.Measures.{Measure, before-place, not-before-place, place-before, place-not-before, same-place}
 use Rattle.alarms.specs.Chains.{Counted, goal-due, stage-to}
 use Rattle.alarms.specs.Meaning.{Gives, onward, pass-to, set-to}
 use Rattle.alarms.specs.declared.faults.AlarmFault.{AlarmFault}
@@ -51,7 +50,7 @@ module _ {A : Type 0} {before : A → A → Bool} {place : A → ℕ} {at : ℕ 
           short = inl refl;
         }
 
-module _ {A : Type 0} {before : A → A → Bool} {place : A → ℕ} {at : ℕ → Option A} {last : A} (m : Measure before place at last) (o : StrictOrder before) {reach start : ℕ} (reaching : 0 < reach) {goal t clock : A} {due : Option A} {rings : ℕ} (h : Chase place reach start goal t clock due rings) where
+module _ {A : Type 0} {before : A → A → Bool} {place : A → ℕ} {at : ℕ → Option A} {last : A} (m : Measure before place at last) {reach start : ℕ} (reaching : 0 < reach) {goal t clock : A} {due : Option A} {rings : ℕ} (h : Chase place reach start goal t clock due rings) where
   -- the stages up to an end within reach of the clock
   counted : (end : A) → (rings ≡ 0) ⊎ (place clock < place end) → place end ≤ place clock + reach → (place end - start - 1) / reach ≡ rings
   counted end short near =
@@ -84,7 +83,7 @@ module _ {A : Type 0} {before : A → A → Bool} {place : A → ℕ} {at : ℕ 
         (cases-bool (before (h .stage) t))
 
     pub few-rings : answer ≡ Ok Rang → rings + 1 < 2 ^ 64
-    few-rings rang = omega (arith, mul-le rings 1 rings reach (omega arith) reaching, h .stages, h .aim .onward, rung rang .2, m .bounded t, m .fits)
+    few-rings rang = omega (arith, mul-le rings 1 rings reach (omega arith) reaching, h .stages, h .aim .onward, rung rang .2, m .places .bounded t, m .places .fits)
 
     -- short of the goal, the short alarm is set anew
     module _ (rang : answer ≡ Ok Rang) (short : before clock′ goal ≡ true) where
@@ -127,7 +126,7 @@ module _ {A : Type 0} {before : A → A → Bool} {place : A → ℕ} {at : ℕ 
           let stages = since clock′ (⊎-elim inl (λ (b : (place clock < place t) × (place clock < place goal)). inr (omega (arith, b .1))) (h .short)) (omega (arith, h .aim .near)) in
           record {
             value = gives-as (sym (pass-goes before from (Some goal) t forward ∙ onward-rings before goal t (place-before m goal t (omega (arith, r .2)))))
-                (record { answered = refl; clocked = same-place m o clock′ goal home; timed = ap (λ (d : Option A). goal-due before d goal) (r .1) });
+                (record { answered = refl; clocked = same-place m clock′ goal home; timed = ap (λ (d : Option A). goal-due before d goal) (r .1) });
             count = (omega (arith, stages), omega (arith, stages, few-stages (place clock′ - place from) reach reaching));
           }
 

@@ -1,7 +1,7 @@
 // The low-bit matcher holds twelve bits, and is due when the clock's place has them for its low bits.
 ghost use mathlib.Core.Path.{_≡_};
 ghost use Rattle.std.specs.declared.option.Option.the-variants.{None};
-ghost use Rattle.times.specs.Places.{Measure};
+ghost use Rattle.times.specs.Places.{Agrees};
 ghost use Rattle.alarms.specs.LowBit.{Earliest, match-due, ticks-to-match};
 ghost use Rattle.alarms.specs.Meaning.{NotPast};
 use crate::faults::AlarmFault;
@@ -57,7 +57,7 @@ pub impl<T: Measured> ShortAlarm<T> for LowBitMatcher<T> as LowBitMatcherShortAl
     fn due(&self) -> Option<T>
         ensures value { λ r. ⌜ r ≡ match-due (T·Measured .place) (T·Measured .at) (now (self .entry) .clock) (now (self .entry) .low) ⌝ }
         ensures ahead { λ r. ⌜ NotPast (T·Time .before) (now (self .entry) .clock) r ⌝ }
-        ensures measure { λ _. ⌜ Measure (T·Time .before) (T·Measured .place) (T·Measured .at) (T·Measured .last) ⌝ }
+        ensures agrees { λ _. ⌜ Agrees (T·Time .before) (T·Measured .place) ⌝ }
         ensures earliest { λ r. ⌜ Earliest (T·Time .before) (T·Measured .place) (now (self .entry) .clock) (now (self .entry) .low) r ⌝ }
     {
         let place = self.clock.place();

@@ -2,7 +2,7 @@
 ghost use mathlib.Core.Path.{_≡_};
 ghost use mathlib.Core.Bool.{false};
 ghost use Rattle.std.specs.declared.option.Option.the-variants.{None, Some};
-ghost use Rattle.times.specs.Places.{Measure, capped};
+ghost use Rattle.times.specs.Places.{Agrees, capped};
 ghost use Rattle.alarms.specs.Chains.{Counted, goal-due, moved, stage-to, uncounted};
 ghost use Rattle.alarms.specs.Meaning.{Gives, Sets, pass-to};
 use crate::faults::AlarmFault;
@@ -14,7 +14,7 @@ use times::Time;
 // Sets the short alarm to the goal, or as far ahead as it reaches if the goal is further.
 pub fn aim<T: Measured, S: ShortAlarm<T>>(short: &mut S, goal: T) -> Result<(), AlarmFault>
     ensures value { λ r. ⌜ Sets (T·Time .before) (S·ShortAlarm .clock) (S·ShortAlarm .due) (now (short .entry)) (now (short .exit)) (stage-to (T·Time .before) (capped (T·Measured .place) (T·Measured .at) (T·Measured .last) (S·ShortAlarm .clock (now (short .entry))) (S·ShortAlarm .reach)) goal) r ⌝ }
-    ensures measure { λ _. ⌜ Measure (T·Time .before) (T·Measured .place) (T·Measured .at) (T·Measured .last) ⌝ }
+    ensures agrees { λ _. ⌜ Agrees (T·Time .before) (T·Measured .place) ⌝ }
 {
     let furthest = short.clock().ahead(S::reach());
     if furthest.before(goal) {

@@ -1,5 +1,5 @@
 // Steps that devices share.
-ghost use Rattle.times.specs.Places.{Measure};
+ghost use Rattle.times.specs.Places.{Agrees};
 ghost use Rattle.alarms.specs.Steps.{RingBefore, TicksWithin};
 use crate::faults::AlarmFault;
 use times::Measured;
@@ -20,8 +20,8 @@ pub fn ring_before<T: Time>(clock: T, due: Option<T>, t: T) -> Result<Option<T>,
 
 // The ticks from the clock to `t`, where they are within the reach.
 pub fn ticks_within<T: Measured>(clock: T, t: T, reach: u16) -> Result<u16, AlarmFault>
-    ensures value { λ r. ⌜ TicksWithin (T·Time .before) (T·Measured .place) reach clock t r ⌝ }
-    ensures measure { λ _. ⌜ Measure (T·Time .before) (T·Measured .place) (T·Measured .at) (T·Measured .last) ⌝ }
+    ensures value { λ r. ⌜ TicksWithin (T·Time .before) (T·Measured .place) (T·Measured .at) reach clock t r ⌝ }
+    ensures agrees { λ _. ⌜ Agrees (T·Time .before) (T·Measured .place) ⌝ }
 {
     let Some(ticks) = t.place().checked_sub(clock.place()) else {
         return Err(AlarmFault::BeforeClock);

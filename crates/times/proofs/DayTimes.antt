@@ -9,7 +9,7 @@ use native.Mathlib.Omega.{arith}
 use lib.Dec.{ltb, lit<}
 use Rattle.std.proofs.shelf.Tests.{ltb-false, lt-ltb, le-ltb, and-from, and-left, and-cases}
 use Rattle.std.specs.declared.option.Option.the-variants.{Some, None}
-use Rattle.times.specs.Places.{Measure}
+use Rattle.times.specs.Places.{Places}
 use Rattle.times.specs.Plain.{PlainForm}
 use Rattle.times.specs.DayTicks.{day-tick-place, day-tick-before, day-tick-of, day-tick-at, day-tick-plain, day-tick-reads, last-day-tick}
 use Rattle.times.specs.declared.day_ticks.DayTick.{DayTick}
@@ -50,9 +50,8 @@ past-last n e =
     ⊎-elim (λ (d : day ≡ false). omega (arith, ltb-false (n / 8640000) (2 ^ 32) d)) (λ (t : tick ≡ false). omega (arith, ltb-false (n % 8640000) 8640000 t))
     (and-cases day tick (from-none (day && tick) _ e))
 
-pub day-tick-measure : Measure day-tick-before day-tick-place day-tick-at last-day-tick
-day-tick-measure = record {
-  ordered = λ a b. refl;
+pub day-tick-places : Places day-tick-place day-tick-at last-day-tick
+day-tick-places = record {
   found = λ n a e. let f = fields (n / 8640000) (n % 8640000) a e in omega (arith, f .0, f .1);
   past = past-last;
   fits = lit< tt;

@@ -7,7 +7,7 @@ use native.Mathlib.Omega.{arith}
 use lib.Dec.{ltb, lit<}
 use Rattle.std.proofs.shelf.Tests.{ltb-false, lt-ltb}
 use Rattle.std.specs.declared.option.Option.the-variants.{Some, None}
-use Rattle.times.specs.Places.{Measure}
+use Rattle.times.specs.Places.{Places}
 use Rattle.times.specs.Plain.{PlainForm}
 use Rattle.times.specs.Ticks.{tick-place, tick-before, tick-at, last-tick}
 use Rattle.times.specs.declared.ticks.Tick.{Tick}
@@ -25,9 +25,8 @@ tick-found a = tested-is (ltb (a .place) (2 ^ 62)) _ a (lt-ltb (a .place) (2 ^ 6
 tick-only : (n : ℕ) (a : Tick) → tick-at n ≡ Some a → a .place ≡ n
 tick-only n a e = let made = from-some (ltb n (2 ^ 62)) _ a e in cc (ap tick-place (made .1))
 
-pub tick-measure : Measure tick-before tick-place tick-at last-tick
-tick-measure = record {
-  ordered = λ a b. refl;
+pub tick-places : Places tick-place tick-at last-tick
+tick-places = record {
   found = tick-only;
   past = λ n e. omega (arith, ltb-false n (2 ^ 62) (from-none (ltb n (2 ^ 62)) _ e));
   fits = lit< tt;

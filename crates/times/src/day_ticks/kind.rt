@@ -1,4 +1,5 @@
 ghost use mathlib.Core.Path.{_≡_};
+ghost use Prim.Native.Nat.{_+_, _/_, _%_};
 ghost use Rattle.std.specs.Options.{okOr};
 ghost use Rattle.times.specs.DayTicks.{day-tick-place, day-tick-before, day-tick-of, day-tick-at, day-tick-plain, day-tick-reads, last-day-tick};
 ghost use Rattle.times.specs.declared.faults.TimeFault.the-variants.{NoSuchTime};
@@ -9,6 +10,8 @@ use crate::places::Measured;
 use crate::plain::Plain;
 
 const TICKS_A_DAY: u64 = 8_640_000;
+// The weight of the upper 32 bits.
+const UPPER: u64 = 0x1_0000_0000;
 
 impl DayTick {
     pub fn new(day: u32, tick: u32) -> Result<Self, TimeFault>
@@ -18,6 +21,16 @@ impl DayTick {
             return Err(TimeFault::NoSuchTime);
         }
         Ok(DayTick { day, tick })
+    }
+
+    // The day and the tick n ticks on: those past midnight carry over, several days at once.
+    fn carry(self, n: u32) -> (u64, u32)
+        ensures day { λ r. ⌜ r .0 ≡ (day-tick-place self + n) / 8640000 ⌝ }
+        ensures tick { λ r. ⌜ r .1 ≡ (day-tick-place self + n) % 8640000 ⌝ }
+    {
+        let ticks = u64::from(self.tick) + u64::from(n);
+        let day = u64::from(self.day) + ticks / TICKS_A_DAY;
+        (day, (ticks % TICKS_A_DAY) as u32)
     }
 }
 
@@ -40,11 +53,8 @@ pub impl Measured for DayTick as DayTickMeasured {
         u64::from(self.day) * TICKS_A_DAY + u64::from(self.tick)
     }
 
-    // The ticks past midnight carry over into the day, several days at once.
     fn checked_ahead(self, n: u32) -> Option<DayTick> {
-        let ticks = u64::from(self.tick) + u64::from(n);
-        let day = u64::from(self.day) + ticks / TICKS_A_DAY;
-        let tick = (ticks % TICKS_A_DAY) as u32;
+        let (day, tick) = self.carry(n);
         if day > u64::from(u32::MAX) {
             return None;
         }
@@ -68,10 +78,10 @@ pub impl Plain for DayTick as DayTickPlain {
     ghost reads = { day-tick-reads };
 
     fn to_plain(self) -> u64 {
-        (u64::from(self.day) << 32) | u64::from(self.tick)
+        u64::from(self.day) * UPPER + u64::from(self.tick)
     }
 
     fn from_plain(form: u64) -> Result<DayTick, TimeFault> {
-        DayTick::new((form >> 32) as u32, (form & 0xffff_ffff) as u32)
+        DayTick::new((form / UPPER) as u32, (form % UPPER) as u32)
     }
 }

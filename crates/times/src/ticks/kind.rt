@@ -41,7 +41,10 @@ pub impl Measured for Tick as TickMeasured {
     }
 
     fn checked_ahead(self, n: u32) -> Option<Tick> {
-        Tick::new(self.place + u64::from(n)).ok()
+        match Tick::new(self.place + u64::from(n)) {
+            Ok(t) => Some(t),
+            Err(_) => None,
+        }
     }
 
     fn last() -> Tick {

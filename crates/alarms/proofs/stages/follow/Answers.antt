@@ -4,54 +4,60 @@ use Prim.Native.Nat.{ℕ}
 use native.Mathlib.Omega.{arith}
 use borrow.Author.Needs.{needs}
 use Rattle.std.specs.declared.result.Result.the-variants.{Ok}
+use Rattle.times.proofs.Measures.{measure}
 use Rattle.alarms.proofs.Chase.{arrived-at-t, chase-begins, chase-falls, chase-on, few-rings, rang-at-goal, set-anew}
 use Rattle.alarms.proofs.Aims.{aim-accepted}
 use Rattle.alarms.proofs.stages.follow.Needs as need
 
 pub stages-holds : need.stages-holds
-stages-holds g c = chase-begins (c .aim .ensures .measure) (g .S·ShortAlarm .reach) (c .args .goal) (c .args .t) _ _ (c .pre .forward) (c .pre .ahead) (c .aim .ensures .value)
+stages-holds g c = chase-begins (measure (g .T·Time·met .ordered) (c .aim .ensures .agrees) (g .T·Measured·met .placed)) (g .S·ShortAlarm .reach) (c .args .goal) (c .args .t) _ _ (c .pre .forward) (c .pre .ahead) (c .aim .ensures .value)
 
 pub add-rings : need.add-rings
 add-rings g c =
     let rang = c .in-Continue-pass .was tt ∙ ap Ok (c .in-Rang .is) in
-    let few = few-rings (c .aim .ensures .measure) (g .T·Time·met .ordered) (g .S·ShortAlarm·met .reaching) (c .stages .inv) (c .pass .ensures) rang in
+    let few = few-rings (measure (g .T·Time·met .ordered) (c .aim .ensures .agrees) (g .T·Measured·met .placed)) (g .S·ShortAlarm·met .reaching) (c .stages .inv) (c .pass .ensures) rang in
     search needs
 
 pub returns-then-not-before : need.returns-then-not-before
 returns-then-not-before g c =
-    let m = c .aim .ensures .measure in
+    let m = measure (g .T·Time·met .ordered) (c .aim .ensures .agrees) (g .T·Measured·met .placed) in
     let begun = aim-accepted m (g .S·ShortAlarm .reach) _ (c .args .goal) (c .pre .ahead) _ (c .aim .ensures .value) .clocked in
     let rang = c .in-Continue-pass .was tt ∙ ap Ok (c .in-Rang .is) in
     let reached : g .T·Time .before (g .S·ShortAlarm .clock (c .pass .last .self)) (c .args .goal) ≡ false = cc in
-    let ended = rang-at-goal m (g .T·Time·met .ordered) (g .S·ShortAlarm·met .reaching) (c .stages .inv) (c .pass .ensures) _ (ap (g .T·Measured .place) begun) (c .pre .forward) rang reached in
+    let ended = rang-at-goal m (g .S·ShortAlarm·met .reaching) (c .stages .inv) (c .pass .ensures) _ (ap (g .T·Measured .place) begun) (c .pre .forward) rang reached in
     record { value = ended .value; count = ended .count }
 
 pub stages-again : need.stages-again
 stages-again g c =
     let rang = c .in-Continue-pass .was tt ∙ ap Ok (c .in-Rang .is) in
     let short : g .T·Time .before (g .S·ShortAlarm .clock (c .pass .last .self)) (c .args .goal) ≡ true = cc in
-    chase-on (c .aim .ensures .measure) (g .T·Time·met .ordered) (g .S·ShortAlarm·met .reaching) (c .stages .inv) (c .pass .ensures) rang short (c .aim-in-Rang .ensures .value)
+    chase-on (measure (g .T·Time·met .ordered) (c .aim .ensures .agrees) (g .T·Measured·met .placed)) (g .S·ShortAlarm·met .reaching) (c .stages .inv) (c .pass .ensures) rang short (c .aim-in-Rang .ensures .value)
 
 pub stages-less : need.stages-less
 stages-less g c =
     let rang = c .in-Continue-pass .was tt ∙ ap Ok (c .in-Rang .is) in
     let short : g .T·Time .before (g .S·ShortAlarm .clock (c .pass .last .self)) (c .args .goal) ≡ true = cc in
-    chase-falls (c .aim .ensures .measure) (g .T·Time·met .ordered) (g .S·ShortAlarm·met .reaching) (c .stages .inv) (c .pass .ensures) rang short (c .aim-in-Rang .ensures .value)
+    chase-falls (measure (g .T·Time·met .ordered) (c .aim .ensures .agrees) (g .T·Measured·met .placed)) (g .S·ShortAlarm·met .reaching) (c .stages .inv) (c .pass .ensures) rang short (c .aim-in-Rang .ensures .value)
 
 -- an aim short of the goal is not refused
 pub returns-in-Break-aim-2 : need.returns-in-Break-aim-2
 returns-in-Break-aim-2 g c =
     let rang = c .in-Continue-pass .was tt ∙ ap Ok (c .in-Rang .is) in
     let short : g .T·Time .before (g .S·ShortAlarm .clock (c .pass .last .self)) (c .args .goal) ≡ true = cc in
-    let set = set-anew (c .aim .ensures .measure) (g .T·Time·met .ordered) (g .S·ShortAlarm·met .reaching) (c .stages .inv) (c .pass .ensures) rang short (c .aim-in-Rang .ensures .value) in
+    let set = set-anew (measure (g .T·Time·met .ordered) (c .aim .ensures .agrees) (g .T·Measured·met .placed)) (g .S·ShortAlarm·met .reaching) (c .stages .inv) (c .pass .ensures) rang short (c .aim-in-Rang .ensures .value) in
     let refused = c .in-Break-aim-2 .was tt in
     let clash : _≡_ {A = ℕ} 0 1 = cc in
     absurd (omega arith)
 
 pub returns : need.returns
 returns g c =
-    let m = c .aim .ensures .measure in
+    let m = measure (g .T·Time·met .ordered) (c .aim .ensures .agrees) (g .T·Measured·met .placed) in
     let begun = aim-accepted m (g .S·ShortAlarm .reach) _ (c .args .goal) (c .pre .ahead) _ (c .aim .ensures .value) .clocked in
     let arrived = c .in-Continue-pass .was tt ∙ ap Ok (c .in-rest .is) in
-    let ended = arrived-at-t m (g .T·Time·met .ordered) (g .S·ShortAlarm·met .reaching) (c .stages .inv) (c .pass .ensures) _ (ap (g .T·Measured .place) begun) (c .pre .forward) arrived in
+    let ended = arrived-at-t m (g .S·ShortAlarm·met .reaching) (c .stages .inv) (c .pass .ensures) _ (ap (g .T·Measured .place) begun) (c .pre .forward) arrived in
     record { value = ended .value; count = ended .count }
+
+pub returns-in-Break-aim : need.returns-in-Break-aim
+returns-in-Break-aim g c =
+    let places = g .T·Measured·met .placed in
+    search needs
