@@ -1,0 +1,4 @@
+pub mod Numbers
+pub mod Opening
+pub mod Purposes
+pub mod Report

@@ -1,0 +1,5 @@
+// The run of a request file. So far: purposes, faults, and the frames of its report.
+pub mod faults;
+pub mod opening;
+pub mod purposes;
+mod report;
