@@ -1,2 +1,5 @@
-// The slots of a timer queue. So far: the timer that a slot holds.
+// Two binary heaps over lent slots, one by hard time and one by soft time.
+pub mod keys;
+mod links;
+pub mod slots;
 pub mod timer;

@@ -1,0 +1,46 @@
+// Reading and exchanging the links of one heap.
+ghost use mathlib.Core.Path.{_≡_};
+ghost use mathlib.Core.List.{map};
+ghost use Prim.Native.Nat.{_<_};
+ghost use lib.ListN.{length, set};
+ghost use Rattle.slot_heaps.specs.Columns.{ats, places, slot-at, place-of, Kept};
+use crate::keys::Key;
+use crate::slots::Link;
+use crate::slots::Slot;
+use times::Time;
+
+pub fn slot_at<T: Time, K: Key<T>>(slots: &[Slot<T>], place: u16) -> u16
+    requires { ⌜ place < length (now slots) ⌝ }
+    ensures { λ r. ⌜ r ≡ slot-at (map (K·Key .link) (now (slots .entry))) place ⌝ }
+{
+    K::link(&slots[place as usize]).at
+}
+
+pub fn place_of<T: Time, K: Key<T>>(slots: &[Slot<T>], slot: u16) -> u16
+    requires { ⌜ slot < length (now slots) ⌝ }
+    ensures { λ r. ⌜ r ≡ place-of (map (K·Key .link) (now (slots .entry))) slot ⌝ }
+{
+    K::link(&slots[slot as usize]).place
+}
+
+fn set_at<T: Time, K: Key<T>>(slots: &mut [Slot<T>], place: u16, slot: u16)
+    requires { ⌜ place < length (now slots) ⌝ }
+    ensures ats { λ _. ⌜ ats (map (K·Key .link) (now (slots .exit))) ≡ set (ats (map (K·Key .link) (now (slots .entry)))) place slot ⌝ }
+    ensures places { λ _. ⌜ places (map (K·Key .link) (now (slots .exit))) ≡ places (map (K·Key .link) (now (slots .entry))) ⌝ }
+    ensures kept { λ _. ⌜ Kept (K·Key .other) (now (slots .entry)) (now (slots .exit)) ⌝ }
+{
+    let s = &mut slots[place as usize];
+    let link = K::link(s);
+    K::set_link(s, Link { at: slot, place: link.place });
+}
+
+fn set_place<T: Time, K: Key<T>>(slots: &mut [Slot<T>], slot: u16, place: u16)
+    requires { ⌜ slot < length (now slots) ⌝ }
+    ensures ats { λ _. ⌜ ats (map (K·Key .link) (now (slots .exit))) ≡ ats (map (K·Key .link) (now (slots .entry))) ⌝ }
+    ensures places { λ _. ⌜ places (map (K·Key .link) (now (slots .exit))) ≡ set (places (map (K·Key .link) (now (slots .entry)))) slot place ⌝ }
+    ensures kept { λ _. ⌜ Kept (K·Key .other) (now (slots .entry)) (now (slots .exit)) ⌝ }
+{
+    let s = &mut slots[slot as usize];
+    let link = K::link(s);
+    K::set_link(s, Link { at: link.at, place });
+}
