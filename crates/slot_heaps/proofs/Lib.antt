@@ -1,1 +1,2 @@
+mod Pairing
 mod Reading

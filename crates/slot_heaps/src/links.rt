@@ -4,6 +4,7 @@ ghost use mathlib.Core.List.{map};
 ghost use Prim.Native.Nat.{_<_};
 ghost use lib.ListN.{length, set};
 ghost use Rattle.slot_heaps.specs.Columns.{ats, places, slot-at, place-of, Kept};
+ghost use Rattle.slot_heaps.specs.Links.{Linked, Swapped};
 use crate::keys::Key;
 use crate::slots::Link;
 use crate::slots::Slot;
@@ -43,4 +44,21 @@ fn set_place<T: Time, K: Key<T>>(slots: &mut [Slot<T>], slot: u16, place: u16)
     let s = &mut slots[slot as usize];
     let link = K::link(s);
     K::set_link(s, Link { at: link.at, place });
+}
+
+// Exchanges the slots at two places of the heap.
+pub fn exchange<T: Time, K: Key<T>>(slots: &mut [Slot<T>], p: u16, q: u16)
+    requires linked { ⌜ Linked (K·Key .link) (now slots) ⌝ }
+    requires first { ⌜ p < length (now slots) ⌝ }
+    requires second { ⌜ q < length (now slots) ⌝ }
+    ensures linked { λ _. ⌜ Linked (K·Key .link) (now (slots .exit)) ⌝ }
+    ensures swapped { λ _. ⌜ Swapped (slot-at (map (K·Key .link) (now (slots .entry)))) (slot-at (map (K·Key .link) (now (slots .exit)))) p q ⌝ }
+    ensures kept { λ _. ⌜ Kept (K·Key .other) (now (slots .entry)) (now (slots .exit)) ⌝ }
+{
+    let i = slot_at::<T, K>(slots, p);
+    let j = slot_at::<T, K>(slots, q);
+    set_at::<T, K>(slots, p, j);
+    set_at::<T, K>(slots, q, i);
+    set_place::<T, K>(slots, i, q);
+    set_place::<T, K>(slots, j, p);
 }
