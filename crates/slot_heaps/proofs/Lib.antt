@@ -1,2 +1,4 @@
+mod Gaps
+mod Orders
 mod Pairing
 mod Reading
