@@ -2,3 +2,4 @@ mod Gaps
 mod Orders
 mod Pairing
 mod Reading
+mod Sifting

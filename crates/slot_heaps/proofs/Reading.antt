@@ -4,6 +4,9 @@ use mathlib.Core.List.{List, map}
 use Prim.Native.Nat.{ℕ, _<_}
 use native.Mathlib.Omega.{arith}
 use lib.ListN.{length, getD, set}
+use Rattle.std.specs.declared.option.Option.the-variants.{Some}
+use Rattle.std.specs.shelf.Maps.{nth}
+use Rattle.std.proofs.shelf.Maps.{nth-getD}
 use Rattle.std.proofs.shelf.Lists.{getD-map, length-map, map-set, set-getD}
 
 module _ {X Y : Type 0} (f : X → Y) (xs : List X) (i : ℕ) (d : X) (within : i < length xs) where
@@ -11,6 +14,9 @@ module _ {X Y : Type 0} (f : X → Y) (xs : List X) (i : ℕ) (d : X) (within : 
   pub column-kept : (x : X) → f x ≡ f (getD xs i d) → map f (set xs i x) ≡ map f xs
   column-kept x e =
       map-set f xs i x ∙ ap (set (map f xs) i) (e ∙ sym (getD-map f xs i d (f d) within)) ∙ set-getD (map f xs) i (f d)
+
+  pub nth-column : nth (map f xs) i ≡ Some (f (getD xs i d))
+  nth-column = nth-getD (map f xs) i (f d) (omega (arith, length-map xs f)) ∙ ap Some (getD-map f xs i d (f d) within)
 
   -- a column of a column
   module _ (g : Y → ℕ) where

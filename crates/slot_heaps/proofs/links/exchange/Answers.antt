@@ -1,5 +1,4 @@
 use mathlib.Core.Path.{_≡_, _∙_, ap, subst}
-use mathlib.Core.List.{map}
 use lib.ListN.{length, set, getD}
 use native.Mathlib.Omega.{arith}
 use Rattle.std.proofs.shelf.Lists.{length-map}
@@ -15,15 +14,15 @@ returns g c =
     let ys = c .set-place-2 .last .slots in
     let p = c .args .p in
     let q = c .args .q in
-    let ss = ats (map f xs) in
-    let ea : ats (map f ys) ≡ set (set ss p (getD ss q 0)) q (getD ss p 0) = cc in
-    let ep : places (map f ys) ≡ set (set (places (map f xs)) (getD ss p 0) q) (getD ss q 0) p = cc in
+    let ss = ats f xs in
+    let ea : ats f ys ≡ set (set ss p (getD ss q 0)) q (getD ss p 0) = cc in
+    let ep : places f ys ≡ set (set (places f xs) (getD ss p 0) q) (getD ss q 0) p = cc in
     let la : length ss ≡ length xs = simp length-map in
-    let lp : length (places (map f xs)) ≡ length xs = simp length-map in
+    let lp : length (places f xs) ≡ length xs = simp length-map in
     let long : length xs ≡ length ys = omega arith in
-    let r = exchanged-links (length xs) ss (ats (map f ys)) (places (map f xs)) (places (map f ys)) p q la lp (c .pre .first) (c .pre .second) (c .pre .linked) ea ep in
+    let r = exchanged-links (length xs) ss (ats f ys) (places f xs) (places f ys) p q la lp (c .pre .first) (c .pre .second) (c .pre .linked) ea ep in
     record {
-      linked = subst (λ n. Paired n (slot-at (map f ys)) (place-of (map f ys))) long (r .0);
+      linked = subst (λ n. Paired n (slot-at f ys) (place-of f ys)) long (r .0);
       swapped = r .1;
       kept = record { timers = cc; others = cc };
     }
