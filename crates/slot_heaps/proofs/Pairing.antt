@@ -40,10 +40,10 @@ pub exchanged-links :
   let at : List ℕ → ℕ → ℕ = λ xs k. getD xs k 0 in
   length ss ≡ n → length ps ≡ n → p < n → q < n → Paired n (at ss) (at ps) →
   ss′ ≡ set (set ss p (at ss q)) q (at ss p) → ps′ ≡ set (set ps (at ss p) q) (at ss q) p →
-  Paired n (at ss′) (at ps′) × Swapped (at ss) (at ss′) p q
+  Paired n (at ss′) (at ps′) × Swapped (at ss) (at ss′) p q × Swapped (at ps) (at ps′) (at ss p) (at ss q)
 exchanged-links n ss ss′ ps ps′ p q la lp′ lp lq h ea ep =
     let at : List ℕ → ℕ → ℕ = λ xs k. getD xs k 0 in
     let s = swapped-by-sets ss ss′ p q (omega arith) (omega arith) ea in
     let is : ps′ ≡ set (set ps (at ss p) (at ps (at ss q))) (at ss q) (at ps (at ss p)) = let x = h .0 p lp .1 in let y = h .0 q lq .1 in cc in
     let t = swapped-by-sets ps ps′ (at ss p) (at ss q) (omega (arith, h .0 p lp .0)) (omega (arith, h .0 q lq .0)) is in
-    (paired-swapped n (at ss) (at ps) (at ss′) (at ps′) p q lp lq h s t, s)
+    (paired-swapped n (at ss) (at ps) (at ss′) (at ps′) p q lp lq h s t, s, t)

@@ -52,6 +52,7 @@ pub fn exchange<T: Time, K: Key<T>>(slots: &mut [Slot<T>], p: u16, q: u16)
     requires second { ⌜ q < length (now slots) ⌝ }
     ensures linked { λ _. ⌜ Linked (K·Key .link) (now (slots .exit)) ⌝ }
     ensures swapped { λ _. ⌜ Swapped (slot-at (K·Key .link) (now (slots .entry))) (slot-at (K·Key .link) (now (slots .exit))) p q ⌝ }
+    ensures moved { λ _. ⌜ Swapped (place-of (K·Key .link) (now (slots .entry))) (place-of (K·Key .link) (now (slots .exit))) (slot-at (K·Key .link) (now (slots .entry)) p) (slot-at (K·Key .link) (now (slots .entry)) q) ⌝ }
     ensures kept { λ _. ⌜ Kept (K·Key .other) (now (slots .entry)) (now (slots .exit)) ⌝ }
 {
     let i = slot_at::<T, K>(slots, p);

@@ -24,5 +24,6 @@ returns g c =
     record {
       linked = subst (λ n. Paired n (slot-at f ys) (place-of f ys)) long (r .0);
       swapped = r .1;
+      moved = r .2;
       kept = record { timers = cc; others = cc };
     }
