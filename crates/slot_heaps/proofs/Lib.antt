@@ -1,0 +1,7 @@
+mod Gaps
+mod Marks
+mod Orders
+mod Pairing
+mod Picked
+mod Reading
+mod Sifting

@@ -1,0 +1,29 @@
+use mathlib.Core.Path.{_≡_, _∙_, ap, subst}
+use lib.ListN.{length, set, getD}
+use native.Mathlib.Omega.{arith}
+use Rattle.std.proofs.shelf.Lists.{length-map}
+use Rattle.slot_heaps.specs.Columns.{ats, places, slot-at, place-of}
+use Rattle.slot_heaps.specs.Links.{Paired}
+use Rattle.slot_heaps.proofs.Pairing.{exchanged-links}
+use Rattle.slot_heaps.proofs.links.exchange.Needs as need
+
+pub returns : need.returns
+returns g c =
+    let f = g .K·Key .link in
+    let xs = c .args .slots .now in
+    let ys = c .set-place-2 .last .slots in
+    let p = c .args .p in
+    let q = c .args .q in
+    let ss = ats f xs in
+    let ea : ats f ys ≡ set (set ss p (getD ss q 0)) q (getD ss p 0) = cc in
+    let ep : places f ys ≡ set (set (places f xs) (getD ss p 0) q) (getD ss q 0) p = cc in
+    let la : length ss ≡ length xs = simp length-map in
+    let lp : length (places f xs) ≡ length xs = simp length-map in
+    let long : length xs ≡ length ys = omega arith in
+    let r = exchanged-links (length xs) ss (ats f ys) (places f xs) (places f ys) p q la lp (c .pre .first) (c .pre .second) (c .pre .linked) ea ep in
+    record {
+      linked = subst (λ n. Paired n (slot-at f ys) (place-of f ys)) long (r .0);
+      swapped = r .1;
+      moved = r .2;
+      kept = record { timers = cc; others = cc };
+    }

@@ -1,0 +1,48 @@
+use mathlib.Core.Path.{_≡_, subst}
+use mathlib.Core.Bool.{true, false}
+use native.Mathlib.Omega.{arith}
+use Rattle.std.specs.declared.option.Option.the-variants.{Some}
+use Rattle.slot_heaps.specs.Columns.{timers, slot-at}
+use Rattle.slot_heaps.specs.HeapOrder.{FirstChild}
+use Rattle.slot_heaps.specs.Sooner.{precedes}
+use Rattle.slot_heaps.proofs.Orders.{precedes-ranks}
+use Rattle.slot_heaps.proofs.Sifting.{moved-exchanged, down-steps, down-rests}
+use Rattle.slot_heaps.proofs.sifts.sift_down.Needs as need
+
+pub returns-then-not-precedes : need.returns-then-not-precedes
+returns-then-not-precedes g c =
+    let xs = c .args .slots .now in
+    let lt = precedes (g .T·Time .before) (g .K·Key .time) in
+    let b = slot-at (g .K·Key .link) (c .loop-child .slots) in
+    let p = c .loop-child .p in
+    let k = c .in-Some .child in
+    let same = c .loop-child .inv .1 .kept .timers in
+    let child = subst (λ ts. FirstChild (lt ts) b p (c .args .count) (Some k)) same (c .in-Some .ensures tt) in
+    let stays : lt (timers xs) (b k) (b p) ≡ false = cc in
+    let ranks = precedes-ranks (g .T·Time .before) (g .K·Key .time) (g .T·Time·met .ordered) (timers xs) in
+    record {
+      moved = c .loop-child .inv .1;
+      ordered = down-rests (lt (timers xs)) ranks (slot-at (g .K·Key .link) xs) b (c .args .from) p k (c .args .count) child stays (c .loop-child .inv .2);
+    }
+
+pub loop-child-again : need.loop-child-again
+loop-child-again g c =
+    let xs = c .args .slots .now in
+    let ys = c .loop-child .slots in
+    let zs = c .exchange .last .slots in
+    let link = g .K·Key .link in
+    let lt = precedes (g .T·Time .before) (g .K·Key .time) in
+    let b = slot-at link ys in
+    let p = c .loop-child .p in
+    let k = c .in-Some .child in
+    let n = c .args .count in
+    let same = c .loop-child .inv .1 .kept .timers in
+    let child = subst (λ ts. FirstChild (lt ts) b p n (Some k)) same (c .in-Some .ensures tt) in
+    let goes : lt (timers xs) (b k) (b p) ≡ true = cc in
+    let ranks = precedes-ranks (g .T·Time .before) (g .K·Key .time) (g .T·Time·met .ordered) (timers xs) in
+    let x = c .exchange .ensures in
+    (
+      child .1,
+      moved-exchanged link (g .K·Key .other) n xs ys zs p k (c .loop-child .inv .0) (child .1) (x .linked) (x .swapped) (x .kept) (c .loop-child .inv .1),
+      down-steps (lt (timers xs)) ranks (slot-at link xs) b (slot-at link zs) (c .args .from) p k n child goes (x .swapped) (c .loop-child .inv .2),
+    )
