@@ -21,3 +21,5 @@ pub mod Popping
 pub mod Progress
 pub mod Numbering
 pub mod Outcomes
+pub mod Inserting
+pub mod Logging

@@ -13,3 +13,6 @@ pub mod WakeUps
 pub mod Readings
 pub mod Trials
 pub mod Views
+pub mod Slots
+pub mod Queues
+pub mod Logs

@@ -1,5 +1,7 @@
 // A queue of one-shot timers with the fewest wake-ups. So far: what it logs, its faults, and the laws of its definitions.
 mod aiming;
+mod calls;
 pub mod fault;
 pub mod firing;
 mod laws;
+pub mod queue;
