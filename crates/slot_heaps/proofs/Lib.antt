@@ -1,4 +1,5 @@
 mod Gaps
+mod Marking
 mod Marks
 mod Orders
 mod Pairing

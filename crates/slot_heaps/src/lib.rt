@@ -1,5 +1,6 @@
 // Two binary heaps over lent slots, one by hard time and one by soft time.
 mod compare;
+mod heaps;
 pub mod keys;
 mod links;
 mod sifts;
