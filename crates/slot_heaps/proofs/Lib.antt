@@ -1,4 +1,5 @@
 mod Gaps
+mod Inserting
 mod Marking
 mod Marks
 mod Orders
@@ -6,3 +7,4 @@ mod Pairing
 mod Picked
 mod Reading
 mod Sifting
+mod TwoHeaps

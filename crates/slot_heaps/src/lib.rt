@@ -3,6 +3,7 @@ mod compare;
 mod heaps;
 pub mod keys;
 mod links;
+pub mod pending;
 mod sifts;
 pub mod slots;
 pub mod timer;
