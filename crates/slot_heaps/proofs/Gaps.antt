@@ -58,3 +58,27 @@ module _ (lt : ℕ → ℕ → Bool) where
       },
       λ q c. let e : q ≡ p = omega arith in by (s .there) (ap b e ∙ s .here) (r .one-way _ _ t),
     )
+
+  -- the slot at p is exchanged for the one at n, to enter or to leave the first places
+  module _ (a b : ℕ → ℕ) (p n : ℕ) (s : Swapped a b p n) where
+    as-before : (k : ℕ) → k < n → (k ≡ p → ⊥) → b k ≡ a k
+    as-before k l u = s .rest k u (omega arith)
+
+    pub enters : n ≤ p → Ordered lt a n → Gap lt b n (n + 1) × Under lt b n (n + 1)
+    enters le h = (
+      record {
+        away = λ q k c l u v. by (as-before k (omega arith) (omega arith)) (as-before q (omega arith) (omega arith)) (h q k c (omega arith));
+        past = λ q k c d l. absurd (omega arith);
+      },
+      λ k c l. absurd (omega arith),
+    )
+
+    pub leaves : Ranks lt → p ≤ n → Ordered lt a (n + 1) → Gap lt b p n
+    leaves r le h = record {
+      away = λ q k c l u v. by (as-before k l v) (as-before q (omega arith) u) (h q k c (omega arith));
+      past = λ q k c d l.
+          by (as-before k l (omega arith)) (as-before q (omega arith) (omega arith)) (r .chain _ _ _ (h p k d (omega arith)) (h q p c (omega arith)));
+    }
+
+    pub leaves-last : n ≤ p → Ordered lt a (n + 1) → Ordered lt b n
+    leaves-last le h = λ q k c l. by (as-before k l (omega arith)) (as-before q (omega arith) (omega arith)) (h q k c (omega arith))

@@ -1,7 +1,10 @@
 mod Gaps
+mod Inserting
+mod Marking
 mod Marks
 mod Orders
 mod Pairing
 mod Picked
 mod Reading
 mod Sifting
+mod TwoHeaps

@@ -31,6 +31,9 @@ module _ {A : Type 0} (link other : Slot A → Link) where
   pub moved-wider : (m n : ℕ) (xs ys : List (Slot A)) → m ≤ n → Moved link other m xs ys → Moved link other n xs ys
   moved-wider m n xs ys le h = record { linked = h .linked; rest = λ k l. h .rest k (omega arith); kept = h .kept }
 
+  pub unmoved : (n : ℕ) (xs : List (Slot A)) → Linked link xs → Moved link other n xs xs
+  unmoved n xs h = record { linked = h; rest = λ k l. refl; kept = record { timers = refl; others = refl } }
+
 module _ (lt : ℕ → ℕ → Bool) where
   -- the slot that began at place j₀ of a is at j of b
   abbrev pub GoingUp : (ℕ → ℕ) → ℕ → (ℕ → ℕ) → ℕ → Type 0

@@ -1,7 +1,8 @@
 -- What a sift makes of a heap with a gap at place j; a and b are the slots by place before and after it. Assumes nothing.
 --     Rises, Sinks      the slot at j goes up, or down: a heap, if it was one below j, or above j
 --     Mends             the slot at j goes where it belongs: a heap
---     Heaped ..         the slots' first n places are a heap
+--     Heaped ..         the first n places are a heap
+--     BothHeaped        the first n places are a heap by hard time, and one by soft time
 use mathlib.Core.Bool.{Bool}
 use mathlib.Core.List.{List}
 use Prim.Native.Nat.{ℕ, _<_}
@@ -27,3 +28,7 @@ order before time xs = precedes before time (timers xs)
 
 abbrev pub Heaped : {A : Type 0} → (A → A → Bool) → (Timer A → A) → (Slot A → Link) → List (Slot A) → ℕ → Type 0
 Heaped before time link xs n = Ordered (order before time xs) (slot-at link xs) n
+
+abbrev pub BothHeaped : {A : Type 0} → (A → A → Bool) → ℕ → List (Slot A) → Type 0
+BothHeaped before n xs =
+    Heaped before (λ t. t .hard) (λ s. s .hard) xs n × Heaped before (λ t. t .soft) (λ s. s .soft) xs n
