@@ -1,4 +1,5 @@
 mod Gaps
+mod Heads
 mod Inserting
 mod Marking
 mod Marks
