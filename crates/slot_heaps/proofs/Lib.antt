@@ -1,6 +1,8 @@
+mod Firsts
 mod Gaps
 mod Heads
 mod Inserting
+mod Laying
 mod Marking
 mod Marks
 mod Orders

@@ -11,7 +11,7 @@ use Rattle.std.proofs.shelf.Lists.{length-map, length-set, getD-map, getD-set-s
 use Rattle.std.proofs.shelf.Tests.{cases-eq, lt-ltb, le-ltb}
 use Rattle.slot_heaps.specs.declared.slots.Link.{Link}
 use Rattle.slot_heaps.specs.declared.slots.Slot.{Slot}
-use Rattle.slot_heaps.specs.Columns.{timers, places, slot-at, place-of, Kept}
+use Rattle.slot_heaps.specs.Columns.{timers, ats, places, slot-at, place-of, Kept}
 use Rattle.slot_heaps.specs.Links.{Linked, Paired, Swapped, Moved}
 use Rattle.slot_heaps.specs.Pending.{pending, Marked}
 use Rattle.slot_heaps.proofs.Marks.{marks-moved, comes-to, marks-entered, marks-left}
@@ -23,6 +23,9 @@ module _ {A : Type 0} where
       omega (arith, ap length (k .timers), length-map xs (λ (s : Slot A). s .timer), length-map ys (λ (s : Slot A). s .timer))
 
 module _ {A : Type 0} (link : Slot A → Link) where
+  pub length-ats : (xs : List (Slot A)) → length (ats link xs) ≡ length xs
+  length-ats xs = simp length-map
+
   pub length-places : (xs : List (Slot A)) → length (places link xs) ≡ length xs
   length-places xs = simp length-map
 

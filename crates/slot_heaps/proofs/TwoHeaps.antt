@@ -14,7 +14,7 @@ use Rattle.slot_heaps.specs.declared.slots.Slot.{Slot}
 use Rattle.slot_heaps.specs.declared.timer.Timer.{Timer}
 use Rattle.slot_heaps.specs.Columns.{timers, slot-at, place-of, Kept}
 use Rattle.slot_heaps.specs.HeapOrder.{Ordered}
-use Rattle.slot_heaps.specs.Links.{Linked, Paired}
+use Rattle.slot_heaps.specs.Links.{Linked, Paired, Straight}
 use Rattle.slot_heaps.specs.Pending.{by-hard, by-soft, pending, Standing, Marked}
 use Rattle.slot_heaps.specs.Sifts.{Heaped}
 use Rattle.slot_heaps.specs.Sooner.{ahead, sooner, precedes}
@@ -35,6 +35,10 @@ module _ {A : Type 0} where
     linked-same l h =
         subst (λ n. Paired n (slot-at link ys) (place-of link ys)) (sym l)
         (subst (λ ls. Paired (length xs) (λ p. getD (map (λ s. s .at) ls) p 0) (λ i. getD (map (λ s. s .place) ls) i 0)) (sym e) h)
+
+    pub straight-same : (n : ℕ) → Straight link n xs → Straight link n ys
+    straight-same n h =
+        subst (λ ls. (k : ℕ) → k < n → (getD (map (λ s. s .at) ls) k 0 ≡ k) × (getD (map (λ s. s .place) ls) k 0 ≡ k)) (sym e) h
 
     pub pending-same : (n : ℕ) → pending link n ys ≡ pending link n xs
     pending-same n = ap (λ ls. map (λ p. ltb p n) (map (λ s. s .place) ls)) e

@@ -1,13 +1,15 @@
 -- The first of the pending timers, and a search by number. Assumes nothing.
 --     First .. x xs              x stands in xs, and nothing in xs comes before it
 --     Top .. n xs r              r is the slot at the top of a heap of n pending slots and its timer, or none if there are none
+--     First-is-least             the first timer's time is not after any, and of those at that time it has the lowest number
+--     None-by-then               if the first by soft time is after w, every soft time is
 --     Found number n xs r        r is a pending slot with that number, or none if no pending timer has it
 use mathlib.Core.Path.{_≡_}
-use mathlib.Core.Bool.{Bool, false}
+use mathlib.Core.Bool.{Bool, true, false}
 use mathlib.Core.List.{List}
 use lib.Dec.{eqb}
 use lib.ListN.{length}
-use Prim.Native.Nat.{ℕ, _<_}
+use Prim.Native.Nat.{ℕ, _<_, _≤_}
 use Rattle.std.specs.declared.option.Option.{Option}
 use Rattle.std.specs.declared.option.Option.the-variants.{Some, None}
 use Rattle.std.specs.shelf.Lists.{All}
@@ -39,3 +41,14 @@ module _ {A : Type 0} (before : A → A → Bool) (time : Timer A → A) (link :
 abbrev pub Found : {A : Type 0} → ℕ → ℕ → List (Slot A) → Option ℕ → Type 0
 Found {A} number n xs None = All (λ x. eqb (x .number) number ≡ false) (listed n xs)
 Found {A} number n xs (Some i) = (x : Timer A) × Holds n xs i x × (x .number ≡ number)
+
+module _ {A : Type 0} (before : A → A → Bool) where
+  abbrev pub First-is-least : Type 0
+  First-is-least =
+      (time : Timer A → A) (x : Timer A) (xs : List (Timer A)) → First before time x xs →
+      All (λ y. (before (time y) (time x) ≡ false) × (time y ≡ time x → x .number ≤ y .number)) xs
+
+  abbrev pub None-by-then : Type 0
+  None-by-then =
+      (time : Timer A → A) (x : Timer A) (xs : List (Timer A)) (w : A) → First before time x xs →
+      before w (time x) ≡ true → All (λ y. before w (time y) ≡ true) xs

@@ -2,6 +2,8 @@
 mod compare;
 mod heaps;
 mod keys;
+mod laws;
+pub mod layout;
 mod links;
 pub mod pending;
 pub mod roots;
