@@ -18,7 +18,7 @@ use Rattle.slot_heaps.specs.Columns.{timers, slot-at, place-of}
 use Rattle.slot_heaps.specs.Firsts.{Holds, First}
 use Rattle.slot_heaps.specs.HeapOrder.{Ordered}
 use Rattle.slot_heaps.specs.Links.{Linked}
-use Rattle.slot_heaps.specs.Pending.{by-hard, pending, listed}
+use Rattle.slot_heaps.specs.Pending.{by-hard, pending, listed, Among}
 use Rattle.slot_heaps.specs.Sifts.{Heaped}
 use Rattle.slot_heaps.specs.Sooner.{ahead, sooner, precedes}
 use Rattle.slot_heaps.proofs.Gaps.{by}
@@ -56,8 +56,7 @@ module _ {A : Type 0} where
       Ranks (precedes before time (timers xs)) → Linked link xs → pending by-hard n xs ≡ pending link n xs → Holds n xs i x → i ≡ slot-at link xs 0 →
       Heaped before time link xs n → First before time x (listed n xs)
   top-is-first before time link n xs i x r l same h is heap = record {
-    rest = _;
-    stands = listed-held n xs i x h;
+    stands = (_, listed-held n xs i x h);
     least = listed-all (λ y. sooner before time y x ≡ false) n xs (λ j y held.
         let k = place-of link xs j in
         let back : slot-at link xs k ≡ j = l .1 j (held .within) .1 in
@@ -77,13 +76,12 @@ module _ {A : Type 0} where
     timer-read : nth (timers xs) i ≡ Some (e .timer)
     timer-read = nth-column (λ s. s .timer) xs i e l ∙ ap (λ s. Some (s .timer)) (sym is)
 
-    pub hit : tested ≡ true → (x : Timer A) × Holds n xs i x × (x .number ≡ number)
+    pub hit : tested ≡ true → (x : Timer A) × Holds n xs i x × (x .number ≡ number) × Among x (listed n xs)
     hit t =
-        let p = and-parts (ltb (e .hard .place) n) (eqb (e .timer .number) number) t in (
-          e .timer,
-          record { within = l; pending = omega (arith, place-read, ltb-true (e .hard .place) n (p .0)); timer = timer-read },
-          eqb-true (e .timer .number) number (p .1),
-        )
+        let p = and-parts (ltb (e .hard .place) n) (eqb (e .timer .number) number) t in
+        let held : Holds n xs i (e .timer) =
+            record { within = l; pending = omega (arith, place-read, ltb-true (e .hard .place) n (p .0)); timer = timer-read } in
+        (e .timer, held, eqb-true (e .timer .number) number (p .1), (_, listed-held n xs i (e .timer) held))
 
     pub miss : tested ≡ false → (x : Timer A) → Holds n xs i x → eqb (x .number) number ≡ false
     miss t x h =

@@ -1,5 +1,6 @@
 mod Firsts
 mod Gaps
+mod Halving
 mod Heads
 mod Inserting
 mod Laying

@@ -18,7 +18,7 @@ use Rattle.slot_heaps.specs.declared.slots.Link.{Link}
 use Rattle.slot_heaps.specs.declared.slots.Slot.{Slot}
 use Rattle.slot_heaps.specs.declared.timer.Timer.{Timer}
 use Rattle.slot_heaps.specs.Columns.{timers, slot-at, place-of}
-use Rattle.slot_heaps.specs.Pending.{by-hard, listed, Inserted}
+use Rattle.slot_heaps.specs.Pending.{by-hard, listed, Among}
 use Rattle.slot_heaps.specs.Sifts.{Heaped}
 use Rattle.slot_heaps.specs.Sooner.{sooner}
 
@@ -29,8 +29,7 @@ pub record Holds {A : Type 0} (n : ℕ) (xs : List (Slot A)) (i : ℕ) (x : Time
   pub timer : nth (timers xs) i ≡ Some x
 
 pub record First {A : Type 0} (before : A → A → Bool) (time : Timer A → A) (x : Timer A) (xs : List (Timer A)) : Type 0 where
-  pub rest : List (Timer A)
-  pub stands : Inserted x rest xs
+  pub stands : Among x xs
   pub least : All (λ y. sooner before time y x ≡ false) xs
 
 module _ {A : Type 0} (before : A → A → Bool) (time : Timer A → A) (link : Slot A → Link) where
@@ -40,7 +39,7 @@ module _ {A : Type 0} (before : A → A → Bool) (time : Timer A → A) (link :
 
 abbrev pub Found : {A : Type 0} → ℕ → ℕ → List (Slot A) → Option ℕ → Type 0
 Found {A} number n xs None = All (λ x. eqb (x .number) number ≡ false) (listed n xs)
-Found {A} number n xs (Some i) = (x : Timer A) × Holds n xs i x × (x .number ≡ number)
+Found {A} number n xs (Some i) = (x : Timer A) × Holds n xs i x × (x .number ≡ number) × Among x (listed n xs)
 
 module _ {A : Type 0} (before : A → A → Bool) where
   abbrev pub First-is-least : Type 0

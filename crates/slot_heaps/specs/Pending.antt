@@ -5,6 +5,7 @@
 --     Marked .. slot b m n   one heap's links moved so that of m places n are left in use, and the slot is pending as b tells
 --     Filled slot t xs ys    the slot holds the timer t, and nothing else changed
 --     Inserted x xs ys       ys is xs with x put in at one place
+--     Among x ys             x stands in ys
 use mathlib.Core.Path.{_≡_}
 use mathlib.Core.Bool.{Bool}
 use mathlib.Core.List.{List, _∷_, _++_, map}
@@ -50,3 +51,6 @@ pub record Inserted {X : Type 0} (x : X) (xs ys : List X) : Type 0 where
   pub after : List X
   pub was : xs ≡ before ++ after
   pub is : ys ≡ before ++ (x ∷ after)
+
+abbrev pub Among : {X : Type 0} → X → List X → Type 0
+Among {X} x ys = (xs : List X) × Inserted x xs ys
