@@ -1,5 +1,9 @@
+mod Firsts
 mod Gaps
+mod Halving
+mod Heads
 mod Inserting
+mod Laying
 mod Marking
 mod Marks
 mod Orders

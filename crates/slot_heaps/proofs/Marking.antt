@@ -11,9 +11,9 @@ use Rattle.std.proofs.shelf.Lists.{length-map, length-set, getD-map, getD-set-s
 use Rattle.std.proofs.shelf.Tests.{cases-eq, lt-ltb, le-ltb}
 use Rattle.slot_heaps.specs.declared.slots.Link.{Link}
 use Rattle.slot_heaps.specs.declared.slots.Slot.{Slot}
-use Rattle.slot_heaps.specs.Columns.{timers, places, slot-at, place-of, Kept}
+use Rattle.slot_heaps.specs.Columns.{timers, ats, places, slot-at, place-of, Kept}
 use Rattle.slot_heaps.specs.Links.{Linked, Paired, Swapped, Moved}
-use Rattle.slot_heaps.specs.Pending.{in-use, Marked}
+use Rattle.slot_heaps.specs.Pending.{pending, Marked}
 use Rattle.slot_heaps.proofs.Marks.{marks-moved, comes-to, marks-entered, marks-left}
 use Rattle.slot_heaps.proofs.Sifting.{kept-then}
 
@@ -23,26 +23,29 @@ module _ {A : Type 0} where
       omega (arith, ap length (k .timers), length-map xs (λ (s : Slot A). s .timer), length-map ys (λ (s : Slot A). s .timer))
 
 module _ {A : Type 0} (link : Slot A → Link) where
+  pub length-ats : (xs : List (Slot A)) → length (ats link xs) ≡ length xs
+  length-ats xs = simp length-map
+
   pub length-places : (xs : List (Slot A)) → length (places link xs) ≡ length xs
   length-places xs = simp length-map
 
-  pub length-in-use : (n : ℕ) (xs : List (Slot A)) → length (in-use link n xs) ≡ length xs
-  length-in-use n xs = simp length-map
+  pub length-pending : (n : ℕ) (xs : List (Slot A)) → length (pending link n xs) ≡ length xs
+  length-pending n xs = simp length-map
 
-  pub in-use-at : (n : ℕ) (xs : List (Slot A)) (i : ℕ) → i < length xs → getD (in-use link n xs) i false ≡ ltb (place-of link xs i) n
-  in-use-at n xs i l = getD-map (λ p. ltb p n) (places link xs) i 0 false (omega (arith, length-places xs))
+  pub pending-at : (n : ℕ) (xs : List (Slot A)) (i : ℕ) → i < length xs → getD (pending link n xs) i false ≡ ltb (place-of link xs i) n
+  pending-at n xs i l = getD-map (λ p. ltb p n) (places link xs) i 0 false (omega (arith, length-places xs))
 
   marked-one : (m n : ℕ) (xs ys : List (Slot A)) (slot : ℕ) (b : Bool) → length ys ≡ length xs →
       ltb (place-of link ys slot) n ≡ b → ((i : ℕ) → i < length xs → (i ≡ slot → ⊥) → ltb (place-of link ys i) n ≡ ltb (place-of link xs i) m) →
-      in-use link n ys ≡ set (in-use link m xs) slot b
+      pending link n ys ≡ set (pending link m xs) slot b
   marked-one m n xs ys slot b long here rest =
-      ext-getD false (in-use link n ys) (set (in-use link m xs) slot b)
-      (omega (arith, length-in-use n ys, length-in-use m xs, length-set (in-use link m xs) slot b))
+      ext-getD false (pending link n ys) (set (pending link m xs) slot b)
+      (omega (arith, length-pending n ys, length-pending m xs, length-set (pending link m xs) slot b))
       (λ i l.
-        let li : i < length xs = omega (arith, length-in-use n ys) in
-        in-use-at n ys i (omega arith) ∙ ⊎-elim
-        (λ e. ap (λ k. ltb (place-of link ys k) n) e ∙ here ∙ sym (ap (λ k. getD (set (in-use link m xs) slot b) k false) e ∙ getD-set-same (in-use link m xs) slot b false (omega (arith, length-in-use m xs))))
-        (λ u. rest i li u ∙ sym (getD-set-other (in-use link m xs) slot i b false u ∙ in-use-at m xs i li))
+        let li : i < length xs = omega (arith, length-pending n ys) in
+        pending-at n ys i (omega arith) ∙ ⊎-elim
+        (λ e. ap (λ k. ltb (place-of link ys k) n) e ∙ here ∙ sym (ap (λ k. getD (set (pending link m xs) slot b) k false) e ∙ getD-set-same (pending link m xs) slot b false (omega (arith, length-pending m xs))))
+        (λ u. rest i li u ∙ sym (getD-set-other (pending link m xs) slot i b false u ∙ pending-at m xs i li))
         (cases-eq i slot))
 
 module _ {A : Type 0} (link other : Slot A → Link) (xs ys zs : List (Slot A)) (p q : ℕ) (lp : p < length xs) (lq : q < length xs)

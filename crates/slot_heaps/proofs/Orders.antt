@@ -35,22 +35,26 @@ module _ {X : Type 0} {lt : X → X → Bool} (r : Ranks lt) where
   ahead-ranks : Ranks (ahead lt)
   ahead-ranks = record { one-way = ahead-one-way; chain = ahead-chain }
 
+module _ {A : Type 0} (before : A → A → Bool) (o : StrictOrder before) where
+  one-before : (a b : A) → before a b ≡ true → before b a ≡ false
+  one-before a b h =
+      ⊎-elim (λ k. absurd (both-ways (before a a) (o .irreflexive a) (o .transitive a b a h k))) (λ k. k) (cases-bool (before b a))
+
+  -- a before b, b not after c
+  pub lt-le : (a b c : A) → before a b ≡ true → before c b ≡ false → before a c ≡ true
+  lt-le a b c h k =
+      ⊎-elim (λ e. o .transitive a b c h e) (λ e. subst (λ x. before a x ≡ true) (o .connected b c e k) h) (cases-bool (before b c))
+
+  -- c not after b, b not after a
+  le-le : (a b c : A) → before a b ≡ false → before b c ≡ false → before a c ≡ false
+  le-le a b c h k =
+      ⊎-elim (λ t. absurd (both-ways (before a b) h (lt-le a c b t k))) (λ e. e) (cases-bool (before a c))
+
 module _ {A : Type 0} (before : A → A → Bool) (time : Timer A → A) where
   abbrev pub NotSooner : Timer A → Timer A → Type 0
   NotSooner x y = (before (time x) (time y) ≡ false) × (time x ≡ time y → y .number ≤ x .number)
 
   module _ (o : StrictOrder before) where
-    one-before : (a b : A) → before a b ≡ true → before b a ≡ false
-    one-before a b h =
-        ⊎-elim (λ k. absurd (both-ways (before a a) (o .irreflexive a) (o .transitive a b a h k))) (λ k. k) (cases-bool (before b a))
-
-    le-le : (a b c : A) → before a b ≡ false → before b c ≡ false → before a c ≡ false
-    le-le a b c h k =
-        ⊎-elim (λ t. ⊎-elim
-          (λ e. absurd (both-ways (before a b) h (o .transitive a c b t e)))
-          (λ e. absurd (both-ways (before a b) h (subst (λ x. before a x ≡ true) (o .connected c b e k) t)))
-          (cases-bool (before c b))) (λ e. e) (cases-bool (before a c))
-
     -- what it says that x is not sooner than y
     pub not-sooner : (x y : Timer A) → sooner before time x y ≡ false → NotSooner x y
     not-sooner x y h =
@@ -74,7 +78,7 @@ module _ {A : Type 0} (before : A → A → Bool) (time : Timer A → A) where
 
     sooner-one-way : (x y : Timer A) → sooner before time x y ≡ true → sooner before time y x ≡ false
     sooner-one-way x y h = from-not-sooner y x (⊎-elim {C = NotSooner y x}
-        (λ t. (one-before (time x) (time y) t, λ e. absurd (both-ways (before (time x) (time y)) (subst (λ u. before (time x) u ≡ false) (sym e) (o .irreflexive (time x))) t)))
+        (λ t. (one-before before o (time x) (time y) t, λ e. absurd (both-ways (before (time x) (time y)) (subst (λ u. before (time x) u ≡ false) (sym e) (o .irreflexive (time x))) t)))
         (λ t.
           let p = and-parts (not (before (time x) (time y) || before (time y) (time x))) (ltb (x .number) (y .number)) t in
           let q = or-parts (before (time x) (time y)) (before (time y) (time x)) (not-true (before (time x) (time y) || before (time y) (time x)) (p .0)) in
@@ -86,7 +90,7 @@ module _ {A : Type 0} (before : A → A → Bool) (time : Timer A → A) where
         let p = not-sooner x y h in
         let q = not-sooner y z k in
         from-not-sooner x z (
-          le-le (time x) (time y) (time z) (p .0) (q .0),
+          le-le before o (time x) (time y) (time z) (p .0) (q .0),
           λ e.
             let f = o .connected (time x) (time y) (p .0) (subst (λ u. before (time y) u ≡ false) (sym e) (q .0)) in
             omega (arith, p .1 f, q .1 (sym f ∙ e)),

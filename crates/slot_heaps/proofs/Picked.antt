@@ -10,7 +10,7 @@ use Rattle.std.specs.shelf.Lists.{kept-by}
 use Rattle.std.proofs.shelf.Lists.{set-set, set-getD}
 use Rattle.slot_heaps.specs.declared.slots.Slot.{Slot}
 use Rattle.slot_heaps.specs.Columns.{timers}
-use Rattle.slot_heaps.specs.Pending.{in-use, listed, by-hard, Inserted}
+use Rattle.slot_heaps.specs.Pending.{pending, listed, by-hard, Inserted}
 
 abbrev pub picked : {X : Type 0} → List Bool → List X → List X
 picked [] xs = []
@@ -21,7 +21,7 @@ one-listed : {A : Type 0} (b : Bool) (s : Slot A) (ss : List (Slot A)) → timer
 one-listed true s ss = refl
 one-listed false s ss = refl
 
-pub listed-picked : {A : Type 0} (n : ℕ) (xs : List (Slot A)) → listed n xs ≡ picked (in-use by-hard n xs) (timers xs)
+pub listed-picked : {A : Type 0} (n : ℕ) (xs : List (Slot A)) → listed n xs ≡ picked (pending by-hard n xs) (timers xs)
 listed-picked n [] = refl
 listed-picked n (s ∷ xs) =
     let b = ltb (s .hard .place) n in

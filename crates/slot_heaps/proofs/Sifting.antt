@@ -53,7 +53,7 @@ module _ (lt : ℕ → ℕ → Bool) where
   over-parent a j f = λ p ch. let e : p ≡ (j - 1) / 2 = omega arith in subst (λ q. lt (a j) (a q) ≡ false) (sym e) f
 
   module _ (r : Ranks lt) where
-    itself : (i : ℕ) → lt i i ≡ false
+    pub itself : (i : ℕ) → lt i i ≡ false
     itself i = ⊎-elim (λ t. r .one-way i i t) (λ f. f) (cases-bool (lt i i))
 
     pub up-steps : (a b c : ℕ → ℕ) (j₀ j : ℕ) → j ≤ j₀ → Rising lt b j true → Swapped b c ((j - 1) / 2) j → GoingUp a j₀ b j → GoingUp a j₀ c ((j - 1) / 2)

@@ -8,17 +8,18 @@ use Prim.Native.Nat.{ℕ, zero, suc, _+_, _<_, _≤_}
 use native.Mathlib.Omega.{arith}
 use Rattle.std.specs.shelf.Maps.{nth}
 use Rattle.std.proofs.shelf.Lists.{length-map}
+use Rattle.std.proofs.shelf.Tests.{lt-ltb, le-ltb, ltb-true, ltb-false}
 use Rattle.slot_heaps.specs.declared.slots.Link.{Link}
 use Rattle.slot_heaps.specs.declared.slots.Slot.{Slot}
 use Rattle.slot_heaps.specs.declared.timer.Timer.{Timer}
 use Rattle.slot_heaps.specs.Columns.{timers, slot-at, place-of, Kept}
 use Rattle.slot_heaps.specs.HeapOrder.{Ordered}
-use Rattle.slot_heaps.specs.Links.{Linked, Paired}
-use Rattle.slot_heaps.specs.Pending.{by-hard, by-soft, in-use, Standing, Marked}
+use Rattle.slot_heaps.specs.Links.{Linked, Paired, Straight}
+use Rattle.slot_heaps.specs.Pending.{by-hard, by-soft, pending, Standing, Marked}
 use Rattle.slot_heaps.specs.Sifts.{Heaped}
 use Rattle.slot_heaps.specs.Sooner.{ahead, sooner, precedes}
 use Rattle.slot_heaps.proofs.Gaps.{by}
-use Rattle.slot_heaps.proofs.Marking.{kept-length, in-use-at}
+use Rattle.slot_heaps.proofs.Marking.{kept-length, pending-at}
 
 nth-other : {X : Type 0} (xs : List X) (i : ℕ) (x : X) (k : ℕ) → (k ≡ i → ⊥) → nth (set xs i x) k ≡ nth xs k
 nth-other [] i x k u = refl
@@ -35,8 +36,12 @@ module _ {A : Type 0} where
         subst (λ n. Paired n (slot-at link ys) (place-of link ys)) (sym l)
         (subst (λ ls. Paired (length xs) (λ p. getD (map (λ s. s .at) ls) p 0) (λ i. getD (map (λ s. s .place) ls) i 0)) (sym e) h)
 
-    pub in-use-same : (n : ℕ) → in-use link n ys ≡ in-use link n xs
-    in-use-same n = ap (λ ls. map (λ p. ltb p n) (map (λ s. s .place) ls)) e
+    pub straight-same : (n : ℕ) → Straight link n xs → Straight link n ys
+    straight-same n h =
+        subst (λ ls. (k : ℕ) → k < n → (getD (map (λ s. s .at) ls) k 0 ≡ k) × (getD (map (λ s. s .place) ls) k 0 ≡ k)) (sym e) h
+
+    pub pending-same : (n : ℕ) → pending link n ys ≡ pending link n xs
+    pending-same n = ap (λ ls. map (λ p. ltb p n) (map (λ s. s .place) ls)) e
 
     module _ (before : A → A → Bool) (time : Timer A → A) where
       pub heaped-same : (n : ℕ) → timers ys ≡ timers xs → Heaped before time link xs n → Heaped before time link ys n
@@ -57,16 +62,26 @@ module _ {A : Type 0} where
           (λ p k c i. kept (a k) (a p) (apart k i) (apart p (omega arith)) ∙ h p k c i))
 
   -- a slot is pending in both heaps or in none
-  pub same-use : (n : ℕ) (xs : List (Slot A)) (i : ℕ) → Standing n xs → i < length xs → ltb (place-of by-hard xs i) n ≡ ltb (place-of by-soft xs i) n
-  same-use n xs i s l = sym (in-use-at by-hard n xs i l) ∙ ap (λ bs. getD bs i false) (s .4) ∙ in-use-at by-soft n xs i l
+  module _ (link : Slot A → Link) (n : ℕ) (xs : List (Slot A)) (i : ℕ) (same : pending by-hard n xs ≡ pending link n xs) (l : i < length xs) where
+    same-use : ltb (place-of by-hard xs i) n ≡ ltb (place-of link xs i) n
+    same-use = sym (pending-at by-hard n xs i l) ∙ ap (λ bs. getD bs i false) same ∙ pending-at link n xs i l
+
+    pub free-both : n ≤ place-of by-hard xs i → n ≤ place-of link xs i
+    free-both f = ltb-false (place-of link xs i) n (sym same-use ∙ le-ltb (place-of by-hard xs i) n f)
+
+    pub pending-both : place-of by-hard xs i < n → place-of link xs i < n
+    pending-both f = ltb-true (place-of link xs i) n (sym same-use ∙ lt-ltb (place-of by-hard xs i) n f)
+
+    pub pending-back : place-of link xs i < n → place-of by-hard xs i < n
+    pending-back f = ltb-true (place-of by-hard xs i) n (same-use ∙ lt-ltb (place-of link xs i) n f)
 
   -- the slot enters both heaps, or leaves both
   module _ (s : ℕ) (b : Bool) (m n : ℕ) (xs ys zs : List (Slot A)) (hard : Marked by-hard by-soft s b m n xs ys) (soft : Marked by-soft by-hard s b m n ys zs) where
     pub timers-then : timers zs ≡ timers xs
     timers-then = soft .kept .timers ∙ hard .kept .timers
 
-    pub marks-then : in-use by-hard n zs ≡ set (in-use by-hard m xs) s b
-    marks-then = in-use-same by-hard ys zs (soft .kept .others) n ∙ hard .marks
+    pub marks-then : pending by-hard n zs ≡ set (pending by-hard m xs) s b
+    marks-then = pending-same by-hard ys zs (soft .kept .others) n ∙ hard .marks
 
     pub length-then : length zs ≡ length xs
     length-then = kept-length by-hard ys zs (soft .kept) ∙ kept-length by-soft xs ys (hard .kept)
@@ -77,5 +92,5 @@ module _ {A : Type 0} where
       subst (λ k. n ≤ k) (sym length-then) le,
       linked-same by-hard ys zs (soft .kept .others) (kept-length by-hard ys zs (soft .kept)) (hard .linked),
       soft .linked,
-      marks-then ∙ ap (λ bs. set bs s b) (h .4) ∙ sym (soft .marks ∙ ap (λ bs. set bs s b) (in-use-same by-soft xs ys (hard .kept .others) m)),
+      marks-then ∙ ap (λ bs. set bs s b) (h .4) ∙ sym (soft .marks ∙ ap (λ bs. set bs s b) (pending-same by-soft xs ys (hard .kept .others) m)),
     )

@@ -23,7 +23,7 @@ pub fn place_of<T: Time, K: Key<T>>(slots: &[Slot<T>], slot: u16) -> u16
     K::link(&slots[slot as usize]).place
 }
 
-fn set_at<T: Time, K: Key<T>>(slots: &mut [Slot<T>], place: u16, slot: u16)
+pub fn set_at<T: Time, K: Key<T>>(slots: &mut [Slot<T>], place: u16, slot: u16)
     requires { ⌜ place < length (now slots) ⌝ }
     ensures ats { λ _. ⌜ ats (K·Key .link) (now (slots .exit)) ≡ set (ats (K·Key .link) (now (slots .entry))) place slot ⌝ }
     ensures places { λ _. ⌜ places (K·Key .link) (now (slots .exit)) ≡ places (K·Key .link) (now (slots .entry)) ⌝ }
@@ -34,7 +34,7 @@ fn set_at<T: Time, K: Key<T>>(slots: &mut [Slot<T>], place: u16, slot: u16)
     K::set_link(s, Link { at: slot, place: link.place });
 }
 
-fn set_place<T: Time, K: Key<T>>(slots: &mut [Slot<T>], slot: u16, place: u16)
+pub fn set_place<T: Time, K: Key<T>>(slots: &mut [Slot<T>], slot: u16, place: u16)
     requires { ⌜ slot < length (now slots) ⌝ }
     ensures ats { λ _. ⌜ ats (K·Key .link) (now (slots .exit)) ≡ ats (K·Key .link) (now (slots .entry)) ⌝ }
     ensures places { λ _. ⌜ places (K·Key .link) (now (slots .exit)) ≡ set (places (K·Key .link) (now (slots .entry))) slot place ⌝ }

@@ -1,9 +1,9 @@
 use mathlib.Core.Path.{_≡_, _∙_, ap, subst}
 use lib.ListN.{length, set, getD}
 use native.Mathlib.Omega.{arith}
-use Rattle.std.proofs.shelf.Lists.{length-map}
 use Rattle.slot_heaps.specs.Columns.{ats, places, slot-at, place-of}
 use Rattle.slot_heaps.specs.Links.{Paired}
+use Rattle.slot_heaps.proofs.Marking.{length-ats, length-places}
 use Rattle.slot_heaps.proofs.Pairing.{exchanged-links}
 use Rattle.slot_heaps.proofs.links.exchange.Needs as need
 
@@ -17,8 +17,8 @@ returns g c =
     let ss = ats f xs in
     let ea : ats f ys ≡ set (set ss p (getD ss q 0)) q (getD ss p 0) = cc in
     let ep : places f ys ≡ set (set (places f xs) (getD ss p 0) q) (getD ss q 0) p = cc in
-    let la : length ss ≡ length xs = simp length-map in
-    let lp : length (places f xs) ≡ length xs = simp length-map in
+    let la : length ss ≡ length xs = length-ats f xs in
+    let lp : length (places f xs) ≡ length xs = length-places f xs in
     let long : length xs ≡ length ys = omega arith in
     let r = exchanged-links (length xs) ss (ats f ys) (places f xs) (places f ys) p q la lp (c .pre .first) (c .pre .second) (c .pre .linked) ea ep in
     record {

@@ -5,10 +5,10 @@ use native.Mathlib.Omega.{arith}
 use Rattle.std.specs.shelf.Maps.{nth}
 use Rattle.slot_heaps.specs.Columns.{timers}
 use Rattle.slot_heaps.specs.Pending.{by-hard, by-soft}
-use Rattle.slot_heaps.proofs.Inserting.{place-same, pending-both, listed-removed}
+use Rattle.slot_heaps.proofs.Inserting.{place-same, listed-removed}
 use Rattle.slot_heaps.proofs.Marking.{kept-length}
 use Rattle.slot_heaps.proofs.Reading.{nth-column}
-use Rattle.slot_heaps.proofs.TwoHeaps.{linked-same, heaped-same, length-then, timers-then, marks-then, standing-then}
+use Rattle.slot_heaps.proofs.TwoHeaps.{linked-same, heaped-same, pending-both, length-then, timers-then, marks-then, standing-then}
 use Rattle.slot_heaps.proofs.pending.remove.Needs as need
 
 pub take-out-requires-2 : need.take-out-requires-2
@@ -25,7 +25,7 @@ take-out-requires-2 g c κs =
       small = omega (arith, long, h .0);
       within = omega (arith, long, c .pre .within);
       fits = omega (arith, long, h .1);
-      there = omega (arith, place-same by-soft xs ys s (k .others), pending-both (n + 1) xs s h (c .pre .within) (omega (arith, c .pre .there)));
+      there = omega (arith, place-same by-soft xs ys s (k .others), pending-both by-soft (n + 1) xs s (h .4) (c .pre .within) (omega (arith, c .pre .there)));
     }
 
 pub returns : need.returns
@@ -46,7 +46,7 @@ returns g c =
       standing = standing-then s false (n + 1) n xs ys zs (hard .marked) (soft .marked) (omega (arith, h .1)) h;
       timers = same;
       value = read;
-      listed = listed-removed n s _ xs zs (c .pre .within) (omega (arith, c .pre .there)) read (marks-then s false (n + 1) n xs ys zs (hard .marked) (soft .marked)) same;
+      listed = listed-removed n s _ xs zs (record { within = c .pre .within; pending = omega (arith, c .pre .there); timer = read }) (marks-then s false (n + 1) n xs ys zs (hard .marked) (soft .marked)) same;
       ordered = λ b. (
           heaped-same by-hard ys zs (soft .marked .kept .others) before (λ t. t .hard) n (soft .marked .kept .timers) (hard .ordered (b .0)),
           soft .ordered (heaped-same by-soft xs ys (hard .marked .kept .others) before (λ t. t .soft) (n + 1) (hard .marked .kept .timers) (b .1)),

@@ -1,10 +1,12 @@
 use mathlib.Core.Path.{_≡_, subst}
 use mathlib.Core.Bool.{true, false}
+use Prim.Native.Nat.{_+_}
 use native.Mathlib.Omega.{arith}
 use Rattle.std.specs.declared.option.Option.the-variants.{Some}
 use Rattle.slot_heaps.specs.Columns.{timers, slot-at}
 use Rattle.slot_heaps.specs.HeapOrder.{FirstChild}
 use Rattle.slot_heaps.specs.Sooner.{precedes}
+use Rattle.slot_heaps.proofs.Halving.{log2-le, log2-falls}
 use Rattle.slot_heaps.proofs.Orders.{precedes-ranks}
 use Rattle.slot_heaps.proofs.Sifting.{moved-exchanged, down-steps, down-rests}
 use Rattle.slot_heaps.proofs.sifts.sift_down.Needs as need
@@ -46,3 +48,12 @@ loop-child-again g c =
       moved-exchanged link (g .K·Key .other) n xs ys zs p k (c .loop-child .inv .0) (child .1) (x .linked) (x .swapped) (x .kept) (c .loop-child .inv .1),
       down-steps (lt (timers xs)) ranks (slot-at link xs) b (slot-at link zs) (c .args .from) p k n child goes (x .swapped) (c .loop-child .inv .2),
     )
+
+pub loop-child-less : need.loop-child-less
+loop-child-less g c =
+    let p = c .loop-child .p in
+    let k = c .in-Some .child in
+    let child = c .in-Some .ensures tt in
+    let low = child .0 .low in
+    let falls = log2-falls (p + 1) (k + 1) (omega arith) (omega arith) in
+    omega (arith, falls, log2-le (k + 1) (c .args .count) (omega (arith, child .1)))
