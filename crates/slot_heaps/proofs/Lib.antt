@@ -1,4 +1,4 @@
-mod Firsts
+pub mod Firsts
 mod Gaps
 mod Halving
 mod Heads

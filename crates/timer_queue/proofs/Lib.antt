@@ -23,3 +23,4 @@ pub mod Numbering
 pub mod Outcomes
 pub mod Inserting
 pub mod Logging
+pub mod Tops

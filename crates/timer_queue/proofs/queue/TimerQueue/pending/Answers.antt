@@ -1,4 +1,3 @@
-use Rattle.timer_queue.proofs.Logging.{log-more}
 use mathlib.Core.Path.{sym}
 use Rattle.timer_queue.proofs.queue.TimerQueue.pending.Needs as need
 
