@@ -24,3 +24,4 @@ pub mod Outcomes
 pub mod Inserting
 pub mod Logging
 pub mod Tops
+pub mod FiringLoop

@@ -16,3 +16,4 @@ pub mod Views
 pub mod Slots
 pub mod Queues
 pub mod Logs
+pub mod Firings

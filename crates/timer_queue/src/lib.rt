@@ -4,4 +4,5 @@ mod calls;
 pub mod fault;
 pub mod firing;
 mod laws;
+mod serving;
 pub mod queue;
