@@ -6,10 +6,11 @@ ghost use Rattle.slot_heaps.specs.Pending.{listed, Standing};
 ghost use Rattle.slot_heaps.specs.Sifts.{BothHeaped};
 ghost use Rattle.timer_queue.specs.Firings.{Fired};
 ghost use Rattle.std.specs.declared.option.Option.the-variants.{Some};
-ghost use Rattle.timer_queue.specs.Timers.{Distinct};
+ghost use Rattle.timer_queue.specs.Timers.{Distinct, least-hard};
 ghost use Rattle.timer_queue.specs.WakeUps.{entry};
 use crate::firing::Firing;
 use slot_heaps::pending::remove;
+use slot_heaps::roots::first_by_hard;
 use slot_heaps::roots::first_by_soft;
 use slot_heaps::slots::Slot;
 use slot_heaps::timer::Timer;
@@ -36,6 +37,7 @@ pub(crate) fn fire<T: Time>(slots: &mut [Slot<T>], pending: u16, wake: T, forcin
     requires room { ⌜ at + pending ≤ length (now log) ⌝ }
     ensures standing { λ r. ⌜ Standing r (now (slots .exit)) ⌝ }
     ensures fewer { λ r. ⌜ r ≤ pending ⌝ }
+    ensures held { λ r. ⌜ length (listed r (now (slots .exit))) + pending ≡ length (listed pending (now (slots .entry))) + r ⌝ }
     ensures ordered { λ r. ⌜ (BothHeaped (T·Time .before) pending (now (slots .entry)) → BothHeaped (T·Time .before) r (now (slots .exit))) ⌝ }
     ensures fired { λ r. ⌜ (BothHeaped (T·Time .before) pending (now (slots .entry)) → Distinct (listed pending (now (slots .entry))) → Fired (T·Time .before) wake forcing (listed pending (now (slots .entry))) (listed r (now (slots .exit))) at (now (log .entry)) (now (log .exit))) ⌝ }
 {
@@ -51,4 +53,15 @@ pub(crate) fn fire<T: Time>(slots: &mut [Slot<T>], pending: u16, wake: T, forcin
         next += 1;
     }
     left
+}
+
+// The least pending hard time.
+pub(crate) fn least<T: Time>(slots: &[Slot<T>], pending: u16) -> Option<T>
+    requires { ⌜ Standing pending (now slots) ⌝ }
+    ensures { λ r. ⌜ (BothHeaped (T·Time .before) pending (now (slots .entry)) → r ≡ least-hard (T·Time .before) (listed pending (now (slots .entry)))) ⌝ }
+{
+    match first_by_hard(slots, pending) {
+        Some((_, first)) => Some(first.hard),
+        None => None,
+    }
 }

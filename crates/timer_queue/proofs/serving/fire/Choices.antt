@@ -12,6 +12,7 @@ Inv-loop-slot g l =
     Standing (l .left) (l .slots)
     × (l .next + l .left ≡ l .at + l .pending)
     × (l .left ≤ l .pending)
+    × (length (listed (l .left) (l .slots)) + l .pending ≡ length (listed (l .pending) (l .entry .slots)) + l .left)
     × (BothHeaped (g .T·Time .before) (l .pending) (l .entry .slots) → BothHeaped (g .T·Time .before) (l .left) (l .slots))
     × (BothHeaped (g .T·Time .before) (l .pending) (l .entry .slots) → Distinct (listed (l .pending) (l .entry .slots)) →
         Firing-on (g .T·Time .before) (g .T·Time·met .ordered) (l .wake) (l .forcing) (l .at) (listed (l .pending) (l .entry .slots)) (l .entry .log)
