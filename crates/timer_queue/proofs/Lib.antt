@@ -25,3 +25,5 @@ pub mod Inserting
 pub mod Logging
 pub mod Tops
 pub mod FiringLoop
+pub mod Ringing
+pub mod ServingLoop

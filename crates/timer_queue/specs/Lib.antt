@@ -17,3 +17,5 @@ pub mod Slots
 pub mod Queues
 pub mod Logs
 pub mod Firings
+pub mod Services
+pub mod Rings

@@ -1,9 +1,12 @@
 // The alarm, against the least pending hard time.
+ghost use mathlib.Core.Bool.{false};
 ghost use mathlib.Core.Path.{_≡_};
 ghost use Rattle.alarms.specs.Meaning.{NotPast};
 ghost use Rattle.timer_queue.specs.Calls.{same-due};
+ghost use Rattle.timer_queue.specs.Rings.{Passed};
 ghost use Rattle.timer_queue.specs.Timers.{same};
 use alarms::Alarm;
+use alarms::Passage;
 use times::Time;
 
 // Whether two times are one: neither is before the other.
@@ -38,5 +41,16 @@ pub(crate) fn aim<T: Time, A: Alarm<T>>(alarm: &mut A, least: Option<T>)
             let _ = alarm.set(hard);
         }
         None => alarm.clear(),
+    }
+}
+
+// Lets the alarm pass to t, and answers whether it rang on the way.
+pub(crate) fn rings<T: Time, A: Alarm<T>>(alarm: &mut A, t: T) -> bool
+    ensures { λ r. ⌜ (T·Time .before t (A·Alarm .clock (now (alarm .entry))) ≡ false → Passed (T·Time .before) (A·Alarm .due (now (alarm .entry))) t (A·Alarm .clock (now (alarm .exit))) (A·Alarm .due (now (alarm .exit))) r) ⌝ }
+{
+    match alarm.pass(t) {
+        Ok(Passage::Rang) => true,
+        Ok(Passage::Arrived) => false,
+        Err(_) => false,
     }
 }
