@@ -48,9 +48,9 @@ module _ (lt : ℕ → ℕ → Bool) where
         away = λ q k c l u v. ⊎-elim
             (λ e. by (s .rest k (omega arith) v) (ap b e ∙ s .here) (best k (subst (λ x. Child x k) e c) l))
             (λ w. ⊎-elim
-              (λ e. by (ap b e ∙ s .here) (s .rest q w u) (g .past q j (subst (λ x. Child q x) e c) ch in′))
-              (λ z. by (s .rest k z v) (s .rest q w u) (g .away q k c l w z))
-              (cases-eq k p))
+            (λ e. by (ap b e ∙ s .here) (s .rest q w u) (g .past q j (subst (λ x. Child q x) e c) ch in′))
+            (λ z. by (s .rest k z v) (s .rest q w u) (g .away q k c l w z))
+            (cases-eq k p))
             (cases-eq q p);
         past = λ q k c d l.
             let e : q ≡ p = omega arith in

@@ -80,7 +80,7 @@ module _ {A : Type 0} where
     hit t =
         let p = and-parts (ltb (e .hard .place) n) (eqb (e .timer .number) number) t in
         let held : Holds n xs i (e .timer) =
-            record { within = l; pending = omega (arith, place-read, ltb-true (e .hard .place) n (p .0)); timer = timer-read } in
+        record { within = l; pending = omega (arith, place-read, ltb-true (e .hard .place) n (p .0)); timer = timer-read } in
         (e .timer, held, eqb-true (e .timer .number) number (p .1), (_, listed-held n xs i (e .timer) held))
 
     pub miss : tested ≡ false → (x : Timer A) → Holds n xs i x → eqb (x .number) number ≡ false

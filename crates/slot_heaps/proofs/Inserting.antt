@@ -68,9 +68,9 @@ module _ {A : Type 0} where
           subst (λ l. Inserted t l (listed (n + 1) zs)) (sym (listed-picked n xs))
           (subst (Inserted t (picked us (timers xs)))
           (sym (listed-picked (n + 1) zs
-            ∙ (λ k. picked ((m ∙ ap (λ bs. set bs s true) (pending-same by-hard xs ys (f .hard) n)) k) ((e ∙ f .timers) k))))
+          ∙ (λ k. picked ((m ∙ ap (λ bs. set bs s true) (pending-same by-hard xs ys (f .hard) n)) k) ((e ∙ f .timers) k))))
           (picked-set t us (timers xs) s (omega (arith, length-pending by-hard n xs)) (omega (arith, length-timers xs))
-            (pending-at by-hard n xs s within ∙ le-ltb (place-of by-hard xs s) n free)))
+          (pending-at by-hard n xs s within ∙ le-ltb (place-of by-hard xs s) n free)))
 
   -- a pending slot's timer stands in the list, and its mark is what puts it there
   pub listed-held : (n : ℕ) (xs : List (Slot A)) (i : ℕ) (t : Timer A) → Holds n xs i t → Inserted t (picked (set (pending by-hard n xs) i false) (timers xs)) (listed n xs)
@@ -78,13 +78,13 @@ module _ {A : Type 0} where
       let us = pending by-hard n xs in
       let l = h .within in
       let was : set (set us i false) i true ≡ us =
-          set-set us i false true ∙ ap (set us i) (sym (pending-at by-hard n xs i l ∙ lt-ltb (place-of by-hard xs i) n (h .pending))) ∙ set-getD us i false in
+      set-set us i false true ∙ ap (set us i) (sym (pending-at by-hard n xs i l ∙ lt-ltb (place-of by-hard xs i) n (h .pending))) ∙ set-getD us i false in
       let read : t ≡ getD (timers xs) i t = let e = nth-getD (timers xs) i t (omega (arith, length-timers xs)) in let f = h .timer in cc in
       let held : set (timers xs) i t ≡ timers xs = ap (set (timers xs) i) read ∙ set-getD (timers xs) i t in
       subst (Inserted t (picked (set us i false) (timers xs))) ((λ k. picked (was k) (held k)) ∙ sym (listed-picked n xs))
       (picked-set t (set us i false) (timers xs) i
-        (omega (arith, length-set us i false, length-pending by-hard n xs)) (omega (arith, length-timers xs))
-        (getD-set-same us i false false (omega (arith, length-pending by-hard n xs))))
+      (omega (arith, length-set us i false, length-pending by-hard n xs)) (omega (arith, length-timers xs))
+      (getD-set-same us i false false (omega (arith, length-pending by-hard n xs))))
 
   pub listed-removed : (n i : ℕ) (t : Timer A) (xs zs : List (Slot A)) → Holds (n + 1) xs i t →
       pending by-hard n zs ≡ set (pending by-hard (n + 1) xs) i false → timers zs ≡ timers xs → Inserted t (listed n zs) (listed (n + 1) xs)

@@ -21,9 +21,9 @@ use Rattle.slot_heaps.proofs.Marking.{length-ats, length-places, length-pendin
 module _ {A : Type 0} (link : Slot A → Link) where
   pub straight-more : (xs ys : List (Slot A)) (i : ℕ) → i < length xs → ats link ys ≡ set (ats link xs) i i → places link ys ≡ set (places link xs) i i → Straight link i xs → Straight link (i + 1) ys
   straight-more xs ys i l ea ep h = λ k m. (
-      ap (λ ns. getD ns k 0) ea ∙ fill-by-more (λ j. j) (ats link xs) i 0 (omega (arith, length-ats link xs)) (λ j n. h j n .0) k m,
-      ap (λ ns. getD ns k 0) ep ∙ fill-by-more (λ j. j) (places link xs) i 0 (omega (arith, length-places link xs)) (λ j n. h j n .1) k m,
-    )
+    ap (λ ns. getD ns k 0) ea ∙ fill-by-more (λ j. j) (ats link xs) i 0 (omega (arith, length-ats link xs)) (λ j n. h j n .0) k m,
+    ap (λ ns. getD ns k 0) ep ∙ fill-by-more (λ j. j) (places link xs) i 0 (omega (arith, length-places link xs)) (λ j n. h j n .1) k m,
+  )
 
   pub straight-linked : (xs : List (Slot A)) → Straight link (length xs) xs → Linked link xs
   straight-linked xs h = (
@@ -42,7 +42,7 @@ module _ {A : Type 0} where
     straight-linked by-hard xs hard,
     straight-linked by-soft xs soft,
     ext-getD false (pending by-hard 0 xs) (pending by-soft 0 xs) (length-pending by-hard 0 xs ∙ sym (length-pending by-soft 0 xs))
-    (λ i l. let m : i < length xs = omega (arith, length-pending by-hard 0 xs) in none-pending by-hard xs i m ∙ sym (none-pending by-soft xs i m)),
+        (λ i l. let m : i < length xs = omega (arith, length-pending by-hard 0 xs) in none-pending by-hard xs i m ∙ sym (none-pending by-soft xs i m)),
   )
 
   pub none-listed : (xs : List (Slot A)) → listed 0 xs ≡ []

@@ -42,15 +42,14 @@ module _ {A : Type 0} (link : Slot A → Link) where
       ext-getD false (pending link n ys) (set (pending link m xs) slot b)
       (omega (arith, length-pending n ys, length-pending m xs, length-set (pending link m xs) slot b))
       (λ i l.
-        let li : i < length xs = omega (arith, length-pending n ys) in
-        pending-at n ys i (omega arith) ∙ ⊎-elim
-        (λ e. ap (λ k. ltb (place-of link ys k) n) e ∙ here ∙ sym (ap (λ k. getD (set (pending link m xs) slot b) k false) e ∙ getD-set-same (pending link m xs) slot b false (omega (arith, length-pending m xs))))
-        (λ u. rest i li u ∙ sym (getD-set-other (pending link m xs) slot i b false u ∙ pending-at m xs i li))
-        (cases-eq i slot))
+      let li : i < length xs = omega (arith, length-pending n ys) in
+      pending-at n ys i (omega arith) ∙ ⊎-elim
+      (λ e. ap (λ k. ltb (place-of link ys k) n) e ∙ here ∙ sym (ap (λ k. getD (set (pending link m xs) slot b) k false) e ∙ getD-set-same (pending link m xs) slot b false (omega (arith, length-pending m xs))))
+      (λ u. rest i li u ∙ sym (getD-set-other (pending link m xs) slot i b false u ∙ pending-at m xs i li))
+      (cases-eq i slot))
 
 module _ {A : Type 0} (link other : Slot A → Link) (xs ys zs : List (Slot A)) (p q : ℕ) (lp : p < length xs) (lq : q < length xs)
     (h : Linked link xs) (k : Kept other xs ys) (linked : Linked link ys) (s : Swapped (place-of link xs) (place-of link ys) (slot-at link xs p) (slot-at link xs q)) where
-
   long : length ys ≡ length xs
   long = kept-length other xs ys k
 

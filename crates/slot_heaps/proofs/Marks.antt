@@ -18,9 +18,9 @@ module _ (size : ℕ) (a b : ℕ → ℕ) (h : Paired size a b) where
   pub marks-moved : (a′ b′ : ℕ → ℕ) (n : ℕ) → Paired size a′ b′ → ((k : ℕ) → n ≤ k → a′ k ≡ a k) → (i : ℕ) → i < size → ltb (b′ i) n ≡ ltb (b i) n
   marks-moved a′ b′ n h′ rest i l = same-test (b′ i) n (b i) n
       (λ t. ⊎-elim (λ k. k) (λ k.
-        let e : b′ i ≡ b i = ap b′ (sym (rest (b i) k ∙ h .1 i l .1)) ∙ h′ .0 (b i) (h .1 i l .0) .1 in omega arith) (cases-lt (b i) n))
+      let e : b′ i ≡ b i = ap b′ (sym (rest (b i) k ∙ h .1 i l .1)) ∙ h′ .0 (b i) (h .1 i l .0) .1 in omega arith) (cases-lt (b i) n))
       (λ t. ⊎-elim (λ k. k) (λ k.
-        let e : b i ≡ b′ i = ap b (sym (sym (rest (b′ i) k) ∙ h′ .1 i l .1)) ∙ h .0 (b′ i) (h′ .1 i l .0) .1 in omega arith) (cases-lt (b′ i) n))
+      let e : b i ≡ b′ i = ap b (sym (sym (rest (b′ i) k) ∙ h′ .1 i l .1)) ∙ h .0 (b′ i) (h′ .1 i l .0) .1 in omega arith) (cases-lt (b′ i) n))
 
   -- the slots at p and q are exchanged
   module _ (b′ : ℕ → ℕ) (p q : ℕ) (lp : p < size) (lq : q < size) (t : Swapped b b′ (a p) (a q)) where
@@ -35,14 +35,14 @@ module _ (size : ℕ) (a b : ℕ → ℕ) (h : Paired size a b) where
         (i : ℕ) → i < size → (i ≡ a p → ⊥) → ltb (b′ i) m ≡ ltb (b i) n
     others m n away moved i l u = ⊎-elim
         (λ e.
-          let x : b′ i ≡ p = ap b′ e ∙ t .there ∙ h .0 p lp .1 in
-          let y : b i ≡ q = ap b e ∙ h .0 q lq .1 in
-          let f = moved (λ w. u (e ∙ ap a (sym w))) in
-          same-test (b′ i) m (b i) n (λ k. let g = f .0 (omega arith) in omega arith) (λ k. let g = f .1 (omega arith) in omega arith))
+        let x : b′ i ≡ p = ap b′ e ∙ t .there ∙ h .0 p lp .1 in
+        let y : b i ≡ q = ap b e ∙ h .0 q lq .1 in
+        let f = moved (λ w. u (e ∙ ap a (sym w))) in
+        same-test (b′ i) m (b i) n (λ k. let g = f .0 (omega arith) in omega arith) (λ k. let g = f .1 (omega arith) in omega arith))
         (λ v.
-          let x : b′ i ≡ b i = t .rest i u v in
-          let f = away (b i) (at-q i l v) in
-          same-test (b′ i) m (b i) n (λ k. f .0 (omega arith)) (λ k. let g = f .1 k in omega arith))
+        let x : b′ i ≡ b i = t .rest i u v in
+        let f = away (b i) (at-q i l v) in
+        same-test (b′ i) m (b i) n (λ k. f .0 (omega arith)) (λ k. let g = f .1 k in omega arith))
         (cases-eq i (a q))
 
     pub marks-entered : q ≤ p → (i : ℕ) → i < size → (i ≡ a p → ⊥) → ltb (b′ i) (q + 1) ≡ ltb (b i) q

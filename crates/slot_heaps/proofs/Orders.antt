@@ -58,31 +58,33 @@ module _ {A : Type 0} (before : A → A → Bool) (time : Timer A → A) where
     -- what it says that x is not sooner than y
     pub not-sooner : (x y : Timer A) → sooner before time x y ≡ false → NotSooner x y
     not-sooner x y h =
-        let p = or-parts (before (time x) (time y)) (not (before (time x) (time y) || before (time y) (time x)) && ltb (x .number) (y .number)) h in
-        (p .0, λ e. ⊎-elim
-          (λ u. absurd (both-ways (before (time x) (time y) || before (time y) (time x))
-            (or-from (before (time x) (time y)) (before (time y) (time x)) (p .0) (subst (λ t. before t (time x) ≡ false) e (o .irreflexive (time x))))
-            (not-false (before (time x) (time y) || before (time y) (time x)) u)))
-          (λ u. ltb-false (x .number) (y .number) u)
-          (and-cases (not (before (time x) (time y) || before (time y) (time x))) (ltb (x .number) (y .number)) (p .1)))
+        let p = or-parts (before (time x) (time y)) (not (before (time x) (time y) || before (time y) (time x)) && ltb (x .number) (y .number)) h in (
+          p .0,
+          λ e. ⊎-elim
+              (λ u. absurd (both-ways (before (time x) (time y) || before (time y) (time x))
+              (or-from (before (time x) (time y)) (before (time y) (time x)) (p .0) (subst (λ t. before t (time x) ≡ false) e (o .irreflexive (time x))))
+              (not-false (before (time x) (time y) || before (time y) (time x)) u)))
+              (λ u. ltb-false (x .number) (y .number) u)
+              (and-cases (not (before (time x) (time y) || before (time y) (time x))) (ltb (x .number) (y .number)) (p .1)),
+        )
 
     pub from-not-sooner : (x y : Timer A) → NotSooner x y → sooner before time x y ≡ false
     from-not-sooner x y h =
         or-from (before (time x) (time y)) (not (before (time x) (time y) || before (time y) (time x)) && ltb (x .number) (y .number)) (h .0)
         (⊎-elim
-          (λ t. and-left (not (before (time x) (time y) || before (time y) (time x))) (ltb (x .number) (y .number))
-            (not-from-true (before (time x) (time y) || before (time y) (time x)) (or-right (before (time x) (time y)) (before (time y) (time x)) t)))
-          (λ f. and-right (not (before (time x) (time y) || before (time y) (time x))) (ltb (x .number) (y .number))
-            (le-ltb (x .number) (y .number) (h .1 (o .connected (time x) (time y) (h .0) f))))
-          (cases-bool (before (time y) (time x))))
+        (λ t. and-left (not (before (time x) (time y) || before (time y) (time x))) (ltb (x .number) (y .number))
+        (not-from-true (before (time x) (time y) || before (time y) (time x)) (or-right (before (time x) (time y)) (before (time y) (time x)) t)))
+        (λ f. and-right (not (before (time x) (time y) || before (time y) (time x))) (ltb (x .number) (y .number))
+        (le-ltb (x .number) (y .number) (h .1 (o .connected (time x) (time y) (h .0) f))))
+        (cases-bool (before (time y) (time x))))
 
     sooner-one-way : (x y : Timer A) → sooner before time x y ≡ true → sooner before time y x ≡ false
     sooner-one-way x y h = from-not-sooner y x (⊎-elim {C = NotSooner y x}
         (λ t. (one-before before o (time x) (time y) t, λ e. absurd (both-ways (before (time x) (time y)) (subst (λ u. before (time x) u ≡ false) (sym e) (o .irreflexive (time x))) t)))
         (λ t.
-          let p = and-parts (not (before (time x) (time y) || before (time y) (time x))) (ltb (x .number) (y .number)) t in
-          let q = or-parts (before (time x) (time y)) (before (time y) (time x)) (not-true (before (time x) (time y) || before (time y) (time x)) (p .0)) in
-          (q .1, λ e. omega (arith, ltb-true (x .number) (y .number) (p .1))))
+        let p = and-parts (not (before (time x) (time y) || before (time y) (time x))) (ltb (x .number) (y .number)) t in
+        let q = or-parts (before (time x) (time y)) (before (time y) (time x)) (not-true (before (time x) (time y) || before (time y) (time x)) (p .0)) in
+        (q .1, λ e. omega (arith, ltb-true (x .number) (y .number) (p .1))))
         (or-cases (before (time x) (time y)) (not (before (time x) (time y) || before (time y) (time x)) && ltb (x .number) (y .number)) h))
 
     sooner-chain : (x y z : Timer A) → sooner before time x y ≡ false → sooner before time y z ≡ false → sooner before time x z ≡ false
@@ -92,8 +94,8 @@ module _ {A : Type 0} (before : A → A → Bool) (time : Timer A → A) where
         from-not-sooner x z (
           le-le before o (time x) (time y) (time z) (p .0) (q .0),
           λ e.
-            let f = o .connected (time x) (time y) (p .0) (subst (λ u. before (time y) u ≡ false) (sym e) (q .0)) in
-            omega (arith, p .1 f, q .1 (sym f ∙ e)),
+              let f = o .connected (time x) (time y) (p .0) (subst (λ u. before (time y) u ≡ false) (sym e) (q .0)) in
+              omega (arith, p .1 f, q .1 (sym f ∙ e)),
         )
 
     pub sooner-ranks : Ranks (sooner before time)

@@ -16,9 +16,9 @@ inverse-swapped n a b a′ b′ p q lp lq h s t = λ k l.
     (λ u. ⊎-elim {C = (a′ k < n) × (b′ (a′ k) ≡ k)}
     (λ e. let f : a′ k ≡ a p = ap a′ e ∙ s .there in (omega (arith, h p lp .0), ap b′ f ∙ t .here ∙ h q lq .1 ∙ sym e))
     (λ v.
-      let f : a′ k ≡ a k = s .rest k u v in
-      let back : (r : ℕ) → r < n → a k ≡ a r → k ≡ r = λ r lr e. sym (h k l .1) ∙ ap b e ∙ h r lr .1 in
-      (omega (arith, h k l .0), ap b′ f ∙ t .rest (a k) (λ e. u (back p lp e)) (λ e. v (back q lq e)) ∙ h k l .1))
+    let f : a′ k ≡ a k = s .rest k u v in
+    let back : (r : ℕ) → r < n → a k ≡ a r → k ≡ r = λ r lr e. sym (h k l .1) ∙ ap b e ∙ h r lr .1 in
+    (omega (arith, h k l .0), ap b′ f ∙ t .rest (a k) (λ e. u (back p lp e)) (λ e. v (back q lq e)) ∙ h k l .1))
     (cases-eq k q))
     (cases-eq k p)
 
@@ -36,11 +36,11 @@ swapped-by-sets xs ys p q lp lq e =
 
 -- the two halves of the links after an exchange: the slots at p and q, and the places of these two slots
 pub exchanged-links :
-  (n : ℕ) (ss ss′ ps ps′ : List ℕ) (p q : ℕ) →
-  let at : List ℕ → ℕ → ℕ = λ xs k. getD xs k 0 in
-  length ss ≡ n → length ps ≡ n → p < n → q < n → Paired n (at ss) (at ps) →
-  ss′ ≡ set (set ss p (at ss q)) q (at ss p) → ps′ ≡ set (set ps (at ss p) q) (at ss q) p →
-  Paired n (at ss′) (at ps′) × Swapped (at ss) (at ss′) p q × Swapped (at ps) (at ps′) (at ss p) (at ss q)
+    (n : ℕ) (ss ss′ ps ps′ : List ℕ) (p q : ℕ) →
+    let at : List ℕ → ℕ → ℕ = λ xs k. getD xs k 0 in
+    length ss ≡ n → length ps ≡ n → p < n → q < n → Paired n (at ss) (at ps) →
+    ss′ ≡ set (set ss p (at ss q)) q (at ss p) → ps′ ≡ set (set ps (at ss p) q) (at ss q) p →
+    Paired n (at ss′) (at ps′) × Swapped (at ss) (at ss′) p q × Swapped (at ps) (at ps′) (at ss p) (at ss q)
 exchanged-links n ss ss′ ps ps′ p q la lp′ lp lq h ea ep =
     let at : List ℕ → ℕ → ℕ = λ xs k. getD xs k 0 in
     let s = swapped-by-sets ss ss′ p q (omega arith) (omega arith) ea in

@@ -56,7 +56,7 @@ module _ {A : Type 0} where
           let a = slot-at link xs in
           let apart : (k : ℕ) → k < n → a k ≡ s → ⊥ = λ k i d. let f : place-of link xs s ≡ k = ap (place-of link xs) (sym d) ∙ l .0 k (omega arith) .1 in omega arith in
           let kept : (i j : ℕ) → (i ≡ s → ⊥) → (j ≡ s → ⊥) → precedes before time (set (timers xs) s t) i j ≡ precedes before time (timers xs) i j =
-              λ i j u v. λ k. ahead (sooner before time) (nth-other (timers xs) s t i u k) (nth-other (timers xs) s t j v k) in
+          λ i j u v. λ k. ahead (sooner before time) (nth-other (timers xs) s t i u k) (nth-other (timers xs) s t j v k) in
           subst (λ ts. Ordered (precedes before time ts) (slot-at link ys) n) (sym et)
           (subst (λ ls. Ordered (precedes before time (set (timers xs) s t)) (λ p. getD (map (λ s. s .at) ls) p 0) n) (sym e)
           (λ p k c i. kept (a k) (a p) (apart k i) (apart p (omega arith)) ∙ h p k c i))

@@ -31,7 +31,13 @@ pub fn set_at<T: Time, K: Key<T>>(slots: &mut [Slot<T>], place: u16, slot: u16)
 {
     let s = &mut slots[place as usize];
     let link = K::link(s);
-    K::set_link(s, Link { at: slot, place: link.place });
+    K::set_link(
+        s,
+        Link {
+            at: slot,
+            place: link.place,
+        },
+    );
 }
 
 pub fn set_place<T: Time, K: Key<T>>(slots: &mut [Slot<T>], slot: u16, place: u16)

@@ -26,7 +26,15 @@ impl<T: Time> Slot<T> {
         ensures { λ r. ⌜ r ≡ a-vacant filler ⌝ }
     {
         let unlinked = Link { at: 0, place: 0 };
-        Slot { timer: Timer { number: 0, soft: filler, hard: filler }, hard: unlinked, soft: unlinked }
+        Slot {
+            timer: Timer {
+                number: 0,
+                soft: filler,
+                hard: filler,
+            },
+            hard: unlinked,
+            soft: unlinked,
+        }
     }
 }
 

@@ -4,6 +4,7 @@ mod aiming;
 mod calls;
 pub mod fault;
 pub mod firing;
+mod inner;
 mod laws;
 mod serving;
 pub mod queue;

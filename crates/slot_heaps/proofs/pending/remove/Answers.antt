@@ -41,14 +41,14 @@ returns g c =
     let soft = c .take-out-2 .ensures in
     let same = timers-then s false (n + 1) n xs ys zs (hard .marked) (soft .marked) in
     let read = ap (λ ts. nth ts s) (sym same) ∙ nth-column (λ x. x .timer) zs s (c .index-slots-slot .result)
-        (omega (arith, length-then s false (n + 1) n xs ys zs (hard .marked) (soft .marked), c .pre .within)) in
+    (omega (arith, length-then s false (n + 1) n xs ys zs (hard .marked) (soft .marked), c .pre .within)) in
     record {
       standing = standing-then s false (n + 1) n xs ys zs (hard .marked) (soft .marked) (omega (arith, h .1)) h;
       timers = same;
       value = read;
       listed = listed-removed n s _ xs zs (record { within = c .pre .within; pending = omega (arith, c .pre .there); timer = read }) (marks-then s false (n + 1) n xs ys zs (hard .marked) (soft .marked)) same;
       ordered = λ b. (
-          heaped-same by-hard ys zs (soft .marked .kept .others) before (λ t. t .hard) n (soft .marked .kept .timers) (hard .ordered (b .0)),
-          soft .ordered (heaped-same by-soft xs ys (hard .marked .kept .others) before (λ t. t .soft) (n + 1) (hard .marked .kept .timers) (b .1)),
-        );
+        heaped-same by-hard ys zs (soft .marked .kept .others) before (λ t. t .hard) n (soft .marked .kept .timers) (hard .ordered (b .0)),
+        soft .ordered (heaped-same by-soft xs ys (hard .marked .kept .others) before (λ t. t .soft) (n + 1) (hard .marked .kept .timers) (b .1)),
+      );
     }

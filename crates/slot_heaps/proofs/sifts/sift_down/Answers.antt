@@ -42,8 +42,7 @@ loop-child-again g c =
     let child = subst (λ ts. FirstChild (lt ts) b p n (Some k)) same (c .in-Some .ensures tt) in
     let goes : lt (timers xs) (b k) (b p) ≡ true = cc in
     let ranks = precedes-ranks (g .T·Time .before) (g .K·Key .time) (g .T·Time·met .ordered) (timers xs) in
-    let x = c .exchange .ensures in
-    (
+    let x = c .exchange .ensures in (
       child .1,
       moved-exchanged link (g .K·Key .other) n xs ys zs p k (c .loop-child .inv .0) (child .1) (x .linked) (x .swapped) (x .kept) (c .loop-child .inv .1),
       down-steps (lt (timers xs)) ranks (slot-at link xs) b (slot-at link zs) (c .args .from) p k n child goes (x .swapped) (c .loop-child .inv .2),

@@ -33,8 +33,7 @@ loop-parent-again g c =
     let p = c .loop-parent .p in
     let goes = subst (λ ts. Rising (lt ts) b p true) (c .loop-parent .inv .1 .kept .timers) (c .loop-parent-test .ensures tt) in
     let ranks = precedes-ranks (g .T·Time .before) (g .K·Key .time) (g .T·Time·met .ordered) (timers xs) in
-    let x = c .exchange .ensures in
-    (
+    let x = c .exchange .ensures in (
       omega arith,
       moved-exchanged link (g .K·Key .other) _ xs ys zs ((p - 1) / 2) p (omega arith) (omega arith) (x .linked) (x .swapped) (x .kept) (c .loop-parent .inv .1),
       up-steps (lt (timers xs)) ranks (slot-at link xs) b (slot-at link zs) (c .args .from) p (c .loop-parent .inv .0) goes (x .swapped) (c .loop-parent .inv .2),
