@@ -1,7 +1,9 @@
 // The run of a request file. So far: purposes, faults, and the frames of its report.
+pub mod closed;
 pub mod counts;
 pub mod faults;
 pub mod opening;
 pub mod purposes;
 pub mod replies;
 mod report;
+pub mod waiting;

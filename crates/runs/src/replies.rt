@@ -1,7 +1,11 @@
 // The answer to a line: what the caller is told, and what stands in the buffer.
-ghost use mathlib.Core.Path.{_≡_};
-use crate::counts::Counts;
 use crate::faults::RunFault;
+
+mod answering;
+
+pub(crate) use answering::accept;
+pub(crate) use answering::ignore;
+pub(crate) use answering::refuse;
 
 // Why a line was refused, and which line.
 #[derive(Clone, Copy)]
