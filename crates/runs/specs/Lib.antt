@@ -1,8 +1,12 @@
+pub mod Files
 pub mod Frames
 pub mod Hearing
 pub mod Numbers
+pub mod Opened
 pub mod Opening
 pub mod Purposes
 pub mod Replies
 pub mod Report
+pub mod Sample
+pub mod Steps
 pub mod Waiting

@@ -2,8 +2,10 @@
 pub mod closed;
 pub mod counts;
 pub mod faults;
+mod laws;
 pub mod opening;
 pub mod purposes;
 pub mod replies;
 mod report;
+pub mod steps;
 pub mod waiting;
