@@ -1,2 +1,7 @@
+pub mod Accounting
+pub mod Adding
+pub mod Hearings
+pub mod Replying
 pub mod ReportLines
+pub mod Telling
 pub mod Windows

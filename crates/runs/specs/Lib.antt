@@ -1,3 +1,4 @@
+pub mod Accounts
 pub mod Files
 pub mod Frames
 pub mod Hearing
