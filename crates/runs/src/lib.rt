@@ -2,6 +2,7 @@
 pub mod closed;
 pub mod counts;
 pub mod faults;
+mod firings;
 mod laws;
 pub mod opening;
 pub mod purposes;
