@@ -13,7 +13,6 @@ use Rattle.std.specs.declared.option.Option.the-variants.{Some, None}
 use Rattle.std.specs.declared.result.Result.{Result}
 use Rattle.times.specs.declared.ticks.Tick.{Tick}
 use Rattle.times.specs.declared.day_ticks.DayTick.{DayTick}
-use Rattle.times.specs.Places.{capped}
 use Rattle.times.specs.Ticks.{tick-place, tick-before, tick-at, last-tick}
 use Rattle.times.specs.DayTicks.{day-tick-place, day-tick-before, day-tick-at, day-tick-plain, day-tick-reads, last-day-tick}
 use Rattle.timer_queue.specs.Calls.{started}
@@ -22,15 +21,15 @@ use Rattle.runs.specs.declared.opening.TimeKind.{TimeKind}
 use Rattle.runs.specs.declared.opening.TimeKind.the-variants.{Ticks, DayTicks}
 use Rattle.runs.specs.declared.replies.Refusal.{Refusal}
 use Rattle.runs.specs.Frames.{Frame, totals}
-use Rattle.runs.specs.Opened.{Opened, Kind, open-line}
+use Rattle.runs.specs.Opened.{Opened, Kind, kind-by, open-line}
 use Rattle.runs.specs.Replies.{Tally, Reply}
 use Rattle.runs.specs.Waiting.{waiting-line, closed-line}
 
 abbrev pub tick-kind : Kind Tick
-tick-kind = record { before = tick-before; reads = tick-at; plain = tick-place; ahead = capped tick-place tick-at last-tick }
+tick-kind = kind-by tick-before tick-at tick-place tick-place tick-at last-tick
 
 abbrev pub day-tick-kind : Kind DayTick
-day-tick-kind = record { before = day-tick-before; reads = day-tick-reads; plain = day-tick-plain; ahead = capped day-tick-place day-tick-at last-day-tick }
+day-tick-kind = kind-by day-tick-before day-tick-reads day-tick-plain day-tick-place day-tick-at last-day-tick
 
 pub data Run : Type 0 where
   waiting : Option Opening → Run

@@ -10,6 +10,7 @@ use lib.ListN.{length}
 use Rattle.std.specs.declared.option.Option.{Option}
 use Rattle.std.specs.declared.result.Result.{Result}
 use Rattle.std.specs.declared.result.Result.the-variants.{Ok, Err}
+use Rattle.times.specs.Places.{capped}
 use Rattle.timer_queue.specs.declared.fault.QueueFault.{QueueFault}
 use Rattle.timer_queue.specs.Calls.{State, Outcome, arming, cancelling, advancing}
 use Rattle.runs.specs.declared.faults.RunFault.{RunFault}
@@ -30,6 +31,9 @@ pub record Kind (A : Type 0) : Type 0 where
   pub reads : ℕ → Option A
   pub plain : A → ℕ
   pub ahead : A → ℕ → A
+
+abbrev pub kind-by : {A : Type 0} → (A → A → Bool) → (ℕ → Option A) → (A → ℕ) → (A → ℕ) → (ℕ → Option A) → A → Kind A
+kind-by before reads plain place at last = record { before = before; reads = reads; plain = plain; ahead = capped place at last }
 
 module _ {A : Type 0} (k : Kind A) where
   -- what a call of the queue does that answers these wake-ups and firings

@@ -11,12 +11,19 @@ use crate::replies::ignore;
 use crate::replies::refuse;
 use crate::report::put_totals;
 
+#[derive(Drop)]
 pub struct ClosedRun {
     counts: Counts,
     pending: u16,
 }
 
 impl ClosedRun {
+    pub(crate) fn new(counts: Counts, pending: u16) -> ClosedRun
+        ensures { λ r. ⌜ (r .counts ≡ counts) × (r .pending ≡ pending) ⌝ }
+    {
+        ClosedRun { counts, pending }
+    }
+
     // Answers a line that comes too late; it needs as much room as one to the open run.
     pub fn late_line(&mut self, buffer: &mut [u8]) -> Replied
         ensures reply { λ r. ⌜ Replied-by (closed-line (length (now (buffer .entry))) (tally-of (now (self .entry) .counts)) (now (self .entry) .pending)) (tally-of (now (self .exit) .counts)) (now (self .exit) .pending) (now (buffer .entry)) (now (buffer .exit)) r ⌝ }

@@ -2,6 +2,10 @@
 ghost use mathlib.Core.Path.{_≡_};
 ghost use lib.ListN.{length};
 ghost use Rattle.std.specs.declared.option.Option.the-variants.{None};
+ghost use mathlib.Core.Bool.{true, false};
+ghost use Rattle.std.specs.Results.{Cases};
+ghost use Rattle.runs.specs.declared.faults.RunFault.the-variants.{NotAccepted};
+ghost use Rattle.runs.specs.Opening.{startable};
 ghost use Rattle.runs.specs.Hearing.{request-of};
 ghost use Rattle.runs.specs.Replies.{tally-of, nothing, Replied-by};
 ghost use Rattle.runs.specs.Waiting.{opening-in, waiting-line};
@@ -9,7 +13,10 @@ use crate::counts::Counts;
 use crate::faults::RunFault;
 use crate::faults::RunFromFrame;
 use crate::faults::RunFromLine;
+use crate::kinds::NamedTime;
+use crate::open::OpenRun;
 use crate::opening::Opening;
+use crate::opening::TimeKind;
 use crate::opening::opening_of;
 use crate::replies::Replied;
 use crate::replies::accept;
@@ -19,6 +26,7 @@ use frames::decode::decode;
 use frames::parse::parse;
 use frames::request::Request;
 
+#[derive(Drop)]
 pub struct WaitingRun {
     counts: Counts,
     accepted: Option<Opening>,
@@ -31,6 +39,19 @@ pub(crate) fn read_request(line: &[u8]) -> Result<Request, RunFault>
     let frame = decode(line)?;
     let request = parse(&frame)?;
     Ok(request)
+}
+
+fn startable(accepted: Option<Opening>, kind: TimeKind, clock: u64) -> bool
+    ensures { λ r. ⌜ r ≡ startable accepted kind clock ⌝ }
+{
+    let Some(opening) = accepted else {
+        return false;
+    };
+    match (opening.kind, kind) {
+        (TimeKind::Ticks, TimeKind::Ticks) => opening.start == clock,
+        (TimeKind::DayTicks, TimeKind::DayTicks) => opening.start == clock,
+        _ => false,
+    }
 }
 
 impl WaitingRun {
@@ -73,6 +94,17 @@ impl WaitingRun {
                 accept(&mut self.counts, buffer, 0, 0, 0)
             }
             Err(fault) => refuse(&mut self.counts, buffer, fault),
+        }
+    }
+
+    // The open run, if an open frame was accepted that asked for this kind of time and this clock.
+    pub(crate) fn open_at<T: NamedTime>(self, clock: T) -> Result<OpenRun<T>, (WaitingRun, RunFault)>
+        ensures { λ r. ⌜ Cases r (λ o. (startable (self .accepted) (T·NamedTime .kind) (T·Plain .plain clock) ≡ true) × (o .counts ≡ self .counts) × (o .closing ≡ false)) (λ e. (startable (self .accepted) (T·NamedTime .kind) (T·Plain .plain clock) ≡ false) × (e .0 ≡ self) × (e .1 ≡ NotAccepted)) ⌝ }
+    {
+        if startable(self.accepted, T::kind(), clock.to_plain()) {
+            Ok(OpenRun::new(self.counts))
+        } else {
+            Err((self, RunFault::NotAccepted))
         }
     }
 }
