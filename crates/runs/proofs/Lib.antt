@@ -1,5 +1,6 @@
 pub mod Accounting
 pub mod Adding
+pub mod Finished
 pub mod FiringLines
 pub mod Hearings
 pub mod Replying

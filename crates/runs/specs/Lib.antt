@@ -1,5 +1,6 @@
 pub mod Accounts
 pub mod Files
+pub mod Finishing
 pub mod Frames
 pub mod Hearing
 pub mod Numbers

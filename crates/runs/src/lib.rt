@@ -2,6 +2,7 @@
 pub mod closed;
 pub mod counts;
 pub mod faults;
+mod finishing;
 mod firings;
 pub mod kinds;
 mod laws;
