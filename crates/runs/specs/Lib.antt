@@ -3,6 +3,7 @@ pub mod Files
 pub mod Finishing
 pub mod Frames
 pub mod Hearing
+pub mod Moves
 pub mod Numbers
 pub mod Opened
 pub mod Opening

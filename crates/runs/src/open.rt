@@ -1,16 +1,14 @@
 // A run that is open: everything but the calls of its queue.
 ghost use mathlib.Core.Path.{_≡_};
-ghost use mathlib.Core.Bool.{true, false};
-ghost use Rattle.std.specs.Results.{Cases};
-ghost use Rattle.times.specs.Places.{capped};
-ghost use Rattle.runs.specs.declared.faults.RunFault.the-variants.{NotAccepted};
+ghost use mathlib.Core.Bool.{false};
+ghost use Rattle.runs.specs.Moves.{Closes};
 ghost use Rattle.runs.specs.Opened.{kind-by, step-in};
 use crate::closed::ClosedRun;
 use crate::counts::Counts;
 use crate::faults::RunFault;
+use crate::reading::read_request;
 use crate::steps::Step;
 use crate::steps::read_step;
-use crate::waiting::read_request;
 use std::marker::PhantomData;
 use times::Plain;
 
@@ -40,9 +38,9 @@ impl<T: Plain> OpenRun<T> {
         read_step(request, clock)
     }
 
-    // The closed run, if a close frame was accepted; `pending` timers are left.
+    // The closed run, or this one back, as it was, with the refusal; `pending` timers are left.
     pub(crate) fn close_with(self, pending: u16) -> Result<ClosedRun, (OpenRun<T>, RunFault)>
-        ensures { λ r. ⌜ Cases r (λ c. (self .closing ≡ true) × (c .counts ≡ self .counts) × (c .pending ≡ pending)) (λ e. (self .closing ≡ false) × (e .0 ≡ self) × (e .1 ≡ NotAccepted)) ⌝ }
+        ensures { λ r. ⌜ Closes self pending r ⌝ }
     {
         if self.closing {
             Ok(ClosedRun::new(self.counts, pending))

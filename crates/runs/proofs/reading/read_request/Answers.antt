@@ -8,7 +8,7 @@ use Rattle.frames.specs.declared.request.Request.{Request}
 use Rattle.frames.specs.Reading.{read-line, line-answer, frame-answer}
 use Rattle.runs.specs.declared.faults.RunFault.{RunFault}
 use Rattle.runs.specs.Hearing.{carried}
-use Rattle.runs.proofs.waiting.read_request.Needs as need
+use Rattle.runs.proofs.reading.read_request.Needs as need
 
 abbrev lifted : Result Request ReadFault → Result Request RunFault
 lifted r = mapped (λ q. q) carried r
