@@ -5,23 +5,19 @@ use mathlib.Core.List.{List, [], _∷_}
 use Prim.Native.Nat.{ℕ, suc}
 use native.Mathlib.Omega.{arith}
 use lib.ListN.{length}
-use Rattle.std.specs.declared.option.Option.the-variants.{Some, None}
+use Rattle.std.specs.declared.option.Option.the-variants.{None}
 use Rattle.std.specs.declared.result.Result.the-variants.{Err}
 use Rattle.runs.specs.declared.faults.RunFault.the-variants.{NotNow}
 use Rattle.runs.specs.Accounts.{Accounted, Files-accounted}
 use Rattle.runs.specs.Files.{Run, waiting, ticks, day-ticks, closed, Feed, tick-kind, day-tick-kind, moved, run-line, fed}
 use Rattle.runs.specs.Replies.{Tally, nothing}
-use Rattle.runs.specs.Waiting.{opening-in}
 use Rattle.runs.proofs.Adding.{Adds, adds-none, adds-both}
-use Rattle.runs.proofs.Hearings.{waiting-heard, open-heard}
-use Rattle.runs.proofs.Replying.{quiet-fit, steps-fit, replied-adds}
+use Rattle.runs.proofs.Replying.{waiting-fit, open-fit, replied-adds}
 
 line-adds : (t : Tally) (r : Run) (f : Feed) → Adds t (run-line t r f .answered ∷ []) (run-line t r f .frames) (run-line t r f .tally)
-line-adds t (waiting s) f = replied-adds (f .room) 0 t s _ (quiet-fit (opening-in s (f .line)) Some (waiting-heard s (f .line)))
-line-adds t (ticks s) f =
-    replied-adds (f .room) _ t s _ (steps-fit tick-kind (f .log) (s .queue) _ (open-heard tick-kind (s .closing) (s .queue .clock) (f .line)))
-line-adds t (day-ticks s) f =
-    replied-adds (f .room) _ t s _ (steps-fit day-tick-kind (f .log) (s .queue) _ (open-heard day-tick-kind (s .closing) (s .queue .clock) (f .line)))
+line-adds t (waiting s) f = replied-adds (f .room) 0 t s _ (waiting-fit s (f .line))
+line-adds t (ticks s) f = replied-adds (f .room) _ t s _ (open-fit tick-kind (f .log) s (f .line))
+line-adds t (day-ticks s) f = replied-adds (f .room) _ t s _ (open-fit day-tick-kind (f .log) s (f .line))
 line-adds t (closed n) f = replied-adds (f .room) n t n (Err NotNow) refl
 
 fed-adds : (u : ℕ) (t : Tally) (r : Run) (fs : List Feed) → Adds t (fed u t r fs .answers) (fed u t r fs .frames) (fed u t r fs .tally)

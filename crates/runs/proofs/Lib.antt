@@ -4,6 +4,7 @@ pub mod Finished
 pub mod FiringLines
 pub mod Hearings
 pub mod Replying
+pub mod Refusing
 pub mod ReportLines
 pub mod Telling
 pub mod Windows

@@ -14,20 +14,22 @@ use Rattle.std.specs.declared.result.Result.the-variants.{Ok, Err}
 use Rattle.std.specs.shelf.Lists.{kept-by}
 use Rattle.timer_queue.specs.declared.fault.QueueFault.{QueueFault}
 use Rattle.timer_queue.specs.declared.firing.Firing.{Firing}
-use Rattle.timer_queue.specs.Calls.{State, conclude, settle, arm-fault, cancel-fault, advance-fault, arming, cancelling, advancing}
+use Rattle.timer_queue.specs.Calls.{State, conclude, arm-fault, cancel-fault, advance-fault}
 use Rattle.timer_queue.specs.WakeUps.{walk}
 use Rattle.runs.specs.declared.faults.RunFault.{RunFault}
 use Rattle.runs.specs.declared.faults.RunFault.the-variants.{ShortBuffer, TooManyLines}
+use Rattle.runs.specs.declared.opening.Opening.{Opening}
 use Rattle.runs.specs.declared.steps.Step.{Step}
 use Rattle.runs.specs.declared.steps.Step.the-variants.{Arm, Cancel, Advance, Close}
 use Rattle.runs.specs.Accounts.{Answer, counts-line, counted, numbered, answers-in, woken, fired, logged, total}
 use Rattle.runs.specs.Frames.{Frame, answer, firing-frame}
 use Rattle.runs.specs.Hearing.{and-then}
 use Rattle.runs.specs.Numbers.{run-number}
-use Rattle.runs.specs.Opened.{Kind, Opened, called, carried-out}
+use Rattle.runs.specs.Opened.{Kind, Opened, called, carried-out, step-in}
 use Rattle.runs.specs.Replies.{Tally, Effect, Reply, quiet, counting, refusing, unanswered, heard, unless, replied}
-use Rattle.runs.proofs.Adding.{answers-append, total-append, Adds, adds-none}
-use Rattle.runs.proofs.Hearings.{Heard}
+use Rattle.runs.specs.Waiting.{opening-in}
+use Rattle.runs.proofs.Adding.{answers-append, total-append, Adds}
+use Rattle.runs.proofs.Hearings.{Heard, waiting-heard, open-heard}
 
 -- a log of so many firings, and of nothing else
 pub record Log-of (n : ℕ) (fs : List Frame) : Type 0 where
@@ -47,7 +49,7 @@ abbrev pub Fit : {S : Type 0} → Result (Effect S) RunFault → Type 0
 Fit (Ok e) = Log-of (e .firings) (e .log)
 Fit (Err f) = counts-line f ≡ true
 
-pub quiet-fit : {X S : Type 0} (r : Result X RunFault) (g : X → S) → Heard r → Fit (mapped (λ (x : X). quiet (g x)) (λ (f : RunFault). f) r)
+quiet-fit : {X S : Type 0} (r : Result X RunFault) (g : X → S) → Heard r → Fit (mapped (λ (x : X). quiet (g x)) (λ (f : RunFault). f) r)
 quiet-fit (Ok x) g h = record { answers = refl; woke = refl; fires = refl; logs = refl }
 quiet-fit (Err f) g h = h
 
@@ -65,9 +67,16 @@ module _ {A : Type 0} (k : Kind A) where
   carried-fit log q (Advance t) = called-fit (λ n. n) (advance-fault (k .before) q t log) q _ _ (walk (k .before) t (q .pending) .entries) refl
   carried-fit log q Close = record { answers = refl; woke = refl; fires = refl; logs = refl }
 
-  pub steps-fit : (log : ℕ) (q : State A) (r : Result (Step A) RunFault) → Heard r → Fit (and-then r (carried-out k log q))
+  steps-fit : (log : ℕ) (q : State A) (r : Result (Step A) RunFault) → Heard r → Fit (and-then r (carried-out k log q))
   steps-fit log q (Ok s) h = carried-fit log q s
   steps-fit log q (Err f) h = h
+
+  pub open-fit : (log : ℕ) (s : Opened A) (line : List ℕ) →
+      Fit (and-then (step-in k (s .closing) (s .queue .clock) line) (carried-out k log (s .queue)))
+  open-fit log s line = steps-fit log (s .queue) (step-in k (s .closing) (s .queue .clock) line) (open-heard k (s .closing) (s .queue .clock) line)
+
+pub waiting-fit : (s : Option Opening) (line : List ℕ) → Fit (mapped (λ o. quiet (Some o)) (λ (f : RunFault). f) (opening-in s line))
+waiting-fit s line = quiet-fit (opening-in s line) Some (waiting-heard s line)
 
 heard-adds : {S : Type 0} (t : Tally) (s : S) (e : Result (Effect S) RunFault) → Fit e →
     Adds t (heard t s e .answered ∷ []) (heard t s e .frames) (heard t s e .tally)
@@ -96,11 +105,11 @@ heard-adds t s (Err f) h =
         firing-frames = refl
     }
 
-abbrev Skips : Option RunFault → Type 0
+abbrev pub Skips : Option RunFault → Type 0
 Skips (Some f) = counts-line f ≡ false
 Skips None = Unit {0}
 
-skips : (a b : Bool) → Skips (cond a (Some ShortBuffer) (cond b (Some TooManyLines) None))
+pub skips : (a b : Bool) → Skips (cond a (Some ShortBuffer) (cond b (Some TooManyLines) None))
 skips true b = refl
 skips false true = refl
 skips false false = tt

@@ -8,6 +8,8 @@ pub mod Numbers
 pub mod Opened
 pub mod Opening
 pub mod Purposes
+pub mod Refusals
+pub mod RefusedSample
 pub mod Replies
 pub mod Report
 pub mod Sample
