@@ -14,7 +14,12 @@ use timer_queue::firing::Firing;
 use times::Plain;
 
 // Writes the firings from the start of the log and then the answer, or the refusal; `outcome` has the wake-ups and the firings.
-pub(crate) fn finish<T: Plain>(counts: &mut Counts, outcome: Result<(u16, u16), RunFault>, log: &[Firing<T>], buffer: &mut [u8]) -> Replied
+pub(crate) fn finish<T: Plain>(
+    counts: &mut Counts,
+    outcome: Result<(u16, u16), RunFault>,
+    log: &[Firing<T>],
+    buffer: &mut [u8],
+) -> Replied
     requires few { ⌜ now counts .lines < 1000000 ⌝ }
     requires fits { ⌜ Fits-in outcome (length (now log)) (length (now buffer)) ⌝ }
     ensures { λ r. ⌜ Replied-by (heard (tally-of (now (counts .entry))) tt (told (T·Plain .plain) outcome (now (log .entry)))) (tally-of (now (counts .exit))) tt (now (buffer .entry)) (now (buffer .exit)) r ⌝ }

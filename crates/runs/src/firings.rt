@@ -22,7 +22,8 @@ fn put_entry<T: Plain>(buffer: &mut [u8], at: usize, entry: Firing<T>) -> usize
     requires { ⌜ at + 63 ≤ length (now buffer) ⌝ }
     ensures { λ r. ⌜ Placed (report-line (frame-payload (firing-frame (T·Plain .plain) entry))) at (now (buffer .entry)) (now (buffer .exit)) r ⌝ }
 {
-    put_firing(buffer, at, entry.number, mark_byte(entry.mark), entry.wake.to_plain(), entry.soft.to_plain(), entry.hard.to_plain())
+    let mark = mark_byte(entry.mark);
+    put_firing(buffer, at, entry.number, mark, entry.wake.to_plain(), entry.soft.to_plain(), entry.hard.to_plain())
 }
 
 // Writes log entries from the start of the buffer on, one after the other, and answers the place behind the last.
