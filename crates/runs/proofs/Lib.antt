@@ -1,2 +1,10 @@
+pub mod Accounting
+pub mod Adding
+pub mod Finished
+pub mod FiringLines
+pub mod Hearings
+pub mod Replying
+pub mod Refusing
 pub mod ReportLines
+pub mod Telling
 pub mod Windows

@@ -1,4 +1,17 @@
+pub mod Accounts
+pub mod Files
+pub mod Finishing
+pub mod Frames
+pub mod Hearing
+pub mod Moves
 pub mod Numbers
+pub mod Opened
 pub mod Opening
 pub mod Purposes
+pub mod Refusals
+pub mod RefusedSample
+pub mod Replies
 pub mod Report
+pub mod Sample
+pub mod Steps
+pub mod Waiting

@@ -2,7 +2,7 @@
 use mathlib.Core.List.{List, [], _∷_}
 use Prim.Native.Nat.{ℕ}
 use lib.Dec.{eqb}
-use mathlib.Core.Bool.{Bool, cond}
+use mathlib.Core.Bool.{Bool, true, false, cond, _&&_}
 use Rattle.std.specs.Options.{isSome}
 use Rattle.std.specs.declared.result.Result.{Result}
 use Rattle.std.specs.declared.result.Result.the-variants.{Ok, Err}
@@ -46,3 +46,14 @@ opens (Cancel number) = Err NotOpenedYet
 opens (Advance to) = Err NotOpenedYet
 opens Close = Err NotOpenedYet
 opens (ArmByPurpose number purpose) = Err NotOpenedYet
+
+abbrev pub same-kind : TimeKind → TimeKind → Bool
+same-kind Ticks Ticks = true
+same-kind Ticks DayTicks = false
+same-kind DayTicks Ticks = false
+same-kind DayTicks DayTicks = true
+
+-- whether an accepted open frame asked for this kind of time, and for a start at this clock
+abbrev pub startable : Option Opening → TimeKind → ℕ → Bool
+startable None k clock = false
+startable (Some o) k clock = same-kind (o .kind) k && eqb (o .start) clock

@@ -28,6 +28,13 @@ pub struct Purpose {
     ghost within: { row < 12 },
 }
 
+fn row_at(row: u8) -> (u32, u32)
+    requires { ⌜ row < 12 ⌝ }
+    ensures { λ r. ⌜ r ≡ getD offsets-of row (0, 0) ⌝ }
+{
+    OFFSETS[row as usize]
+}
+
 impl Purpose {
     // The purpose of a number, or the number back.
     pub fn new(row: u8) -> Result<Purpose, u8>
@@ -41,6 +48,6 @@ impl Purpose {
         ensures row { λ r. ⌜ r ≡ getD offsets-of (self .row) (0, 0) ⌝ }
         ensures window { λ r. ⌜ Windowed r ⌝ }
     {
-        OFFSETS[self.row as usize]
+        row_at(self.row)
     }
 }
