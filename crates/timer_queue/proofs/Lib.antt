@@ -27,3 +27,4 @@ pub mod Tops
 pub mod FiringLoop
 pub mod Ringing
 pub mod ServingLoop
+pub mod Fronts

@@ -19,3 +19,4 @@ pub mod Logs
 pub mod Firings
 pub mod Services
 pub mod Rings
+pub mod Inners

@@ -5,6 +5,7 @@ mod aiming;
 mod calls;
 pub mod fault;
 pub mod firing;
+mod inner;
 mod laws;
 mod serving;
 mod queue;
