@@ -9,7 +9,11 @@ ghost use Rattle.slot_heaps.specs.Columns.{timers, place-of};
 ghost use Rattle.slot_heaps.specs.Pending.{by-hard, listed, Inserted, Standing};
 ghost use Rattle.slot_heaps.specs.Sifts.{BothHeaped};
 ghost use Rattle.timer_queue.specs.Inners.{held-slots, held-timers, Spared};
+ghost use Rattle.timer_queue.specs.Services.{Ready, Served-all};
+use crate::advancing::serve;
+use crate::firing::Firing;
 use crate::queue::Inner;
+use alarms::Alarm;
 use slot_heaps::layout::lay_out;
 use slot_heaps::pending::insert;
 use slot_heaps::pending::remove;
@@ -65,4 +69,23 @@ pub(crate) fn leave<T: Time>(inner: &mut Inner<'_, T>, slot: u16, left: u16) -> 
     let timer = remove(&mut inner.slots[0..usable], slot, left);
     inner.pending = left;
     timer
+}
+
+// The wake-ups of an advance to t; answers how many there were.
+pub(crate) fn run<T: Time, A: Alarm<T>>(inner: &mut Inner<'_, T>, alarm: &mut A, t: T, log: &mut [Firing<T>]) -> u16
+    requires within { ⌜ now inner .usable ≤ length (now (now inner .slots)) ⌝ }
+    requires standing { ⌜ Standing (now inner .pending) (held-slots (now inner)) ⌝ }
+    requires room { ⌜ now inner .pending ≤ length (now log) ⌝ }
+    ensures spared { λ _. ⌜ Spared (now (inner .entry)) (now (inner .exit)) ⌝ }
+    ensures standing { λ _. ⌜ Standing (now (inner .exit) .pending) (held-slots (now (inner .exit))) ⌝ }
+    ensures fewer { λ _. ⌜ now (inner .exit) .pending ≤ now (inner .entry) .pending ⌝ }
+    ensures held { λ _. ⌜ length (held-timers (now (inner .exit))) + now (inner .entry) .pending ≡ length (held-timers (now (inner .entry))) + now (inner .exit) .pending ⌝ }
+    ensures ordered { λ _. ⌜ (BothHeaped (T·Time .before) (now (inner .entry) .pending) (held-slots (now (inner .entry))) → BothHeaped (T·Time .before) (now (inner .exit) .pending) (held-slots (now (inner .exit)))) ⌝ }
+    ensures served { λ r. ⌜ (Ready (T·Time .before) (now (inner .entry) .pending) (held-slots (now (inner .entry))) (A·Alarm .clock (now (alarm .entry))) (A·Alarm .due (now (alarm .entry))) t → Served-all (T·Time .before) t (held-timers (now (inner .entry))) (held-timers (now (inner .exit))) r (now (log .entry)) (now (log .exit)) (A·Alarm .clock (now (alarm .exit))) (A·Alarm .due (now (alarm .exit)))) ⌝ }
+{
+    let usable = inner.usable as usize;
+    let pending = inner.pending;
+    let service = serve(&mut inner.slots[0..usable], pending, alarm, t, log);
+    inner.pending = service.left;
+    service.wakes
 }
