@@ -7,5 +7,6 @@ pub mod fault;
 pub mod firing;
 mod inner;
 mod laws;
+mod lookups;
 mod serving;
 mod queue;
