@@ -48,9 +48,8 @@ module _ (lt : ℕ → ℕ → Bool) where
   pub up-rests : (a b : ℕ → ℕ) (j₀ j : ℕ) → Over lt b j → GoingUp a j₀ b j → Rises lt a j₀ b
   up-rests a b j₀ j o was = λ n l g u. let h = was n l g u in closes lt b j n (h .0) (h .1) o
 
-  -- the parent's slot stays under what was over it
-  pub over-parent : (a : ℕ → ℕ) (j : ℕ) → lt (a j) (a ((j - 1) / 2)) ≡ false → Over lt a j
-  over-parent a j f = λ p ch. let e : p ≡ (j - 1) / 2 = omega arith in subst (λ q. lt (a j) (a q) ≡ false) (sym e) f
+  pub down-ends : (a b : ℕ → ℕ) (j₀ j n : ℕ) → n ≤ j * 2 + 1 → GoingDown n a j₀ b j → Sinks lt a j₀ n b
+  down-ends a b j₀ j n le was = λ g o. let h = was g o in closes lt b j n (h .0) (λ k c l. absurd (omega arith)) (h .1)
 
   module _ (r : Ranks lt) where
     pub itself : (i : ℕ) → lt i i ≡ false

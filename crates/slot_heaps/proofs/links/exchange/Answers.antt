@@ -27,3 +27,9 @@ returns g c =
       moved = r .2;
       kept = record { timers = cc; others = cc };
     }
+
+pub set-place-requires : need.set-place-requires
+set-place-requires g c κs = omega (arith, c .pre .linked .0 (c .args .p) (c .pre .first) .0)
+
+pub set-place-requires-2 : need.set-place-requires-2
+set-place-requires-2 g c κs = omega (arith, c .pre .linked .0 (c .args .q) (c .pre .second) .0)

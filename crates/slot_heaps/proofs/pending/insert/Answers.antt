@@ -7,7 +7,7 @@ use Rattle.slot_heaps.specs.Columns.{timers}
 use Rattle.slot_heaps.specs.Pending.{by-hard, by-soft}
 use Rattle.slot_heaps.proofs.Inserting.{place-same, standing-filled, free-filled, length-filled, both-heaped-filled, listed-inserted}
 use Rattle.slot_heaps.proofs.Marking.{kept-length}
-use Rattle.slot_heaps.proofs.TwoHeaps.{linked-same, heaped-same, timers-then, marks-then, standing-then}
+use Rattle.slot_heaps.proofs.TwoHeaps.{linked-same, pending-same, heaped-same, timers-then, marks-then, standing-then}
 use Rattle.slot_heaps.proofs.pending.insert.Needs as need
 
 pub push-requires : need.push-requires
@@ -53,6 +53,8 @@ returns g c =
     record {
       standing = standing-then s true n (n + 1) ys zs ws (hard .marked) (soft .marked) (omega (arith, length-filled n s t xs ys (c .pre .standing) filled)) (standing-filled n s t xs ys (c .pre .standing) filled);
       timers = timers-then s true n (n + 1) ys zs ws (hard .marked) (soft .marked) ∙ filled .timers ∙ ap (λ i. set (timers xs) i t) (c .slot-at-slot .ensures);
+      slots = marks-then s true n (n + 1) ys zs ws (hard .marked) (soft .marked)
+          ∙ (λ k. set (pending-same by-hard xs ys (filled .hard) n k) (c .slot-at-slot .ensures k) true);
       listed = listed-inserted n s t xs ys (c .pre .standing) filled (c .pre .room) (c .slot-at-slot .ensures) ws
           (marks-then s true n (n + 1) ys zs ws (hard .marked) (soft .marked)) (timers-then s true n (n + 1) ys zs ws (hard .marked) (soft .marked));
       ordered = λ b.
