@@ -1,12 +1,12 @@
 -- What a sift keeps from turn to turn.
 use mathlib.Core.Path.{_≡_, _∙_, refl, sym, ap, subst}
 use mathlib.Core.Logic.{⊎-elim}
-use mathlib.Core.Bool.{Bool, true, false}
+use mathlib.Core.Bool.{Bool, true, false, cond}
 use mathlib.Core.List.{List}
 use Prim.Native.Nat.{ℕ, _+_, _-_, _*_, _/_, _<_, _≤_}
 use native.Mathlib.Omega.{arith}
 use Rattle.std.specs.declared.option.Option.the-variants.{Some}
-use Rattle.std.proofs.shelf.Tests.{cases-eq, cases-bool}
+use Rattle.std.proofs.shelf.Tests.{cases-eq, cases-bool, cond-both}
 use Rattle.slot_heaps.specs.declared.slots.Link.{Link}
 use Rattle.slot_heaps.specs.declared.slots.Slot.{Slot}
 use Rattle.slot_heaps.specs.Columns.{slot-at, Kept}
@@ -75,16 +75,21 @@ module _ (lt : ℕ → ℕ → Bool) where
       λ k ch i. let e : k ≡ 2 * j + 1 = omega arith in by lt (ap a e) refl (itself (a (2 * j + 1))),
     )
 
-    pub left-child : (a : ℕ → ℕ) (j n : ℕ) → 2 * j + 1 < n → lt (a ((2 * j + 1) + 1)) (a (2 * j + 1)) ≡ false → FirstChild lt a j n (Some (2 * j + 1))
+    left-child : (a : ℕ → ℕ) (j n : ℕ) → 2 * j + 1 < n → lt (a ((2 * j + 1) + 1)) (a (2 * j + 1)) ≡ false → FirstChild lt a j n (Some (2 * j + 1))
     left-child a j n l f = (
       record { low = omega arith; high = omega arith },
       l,
       λ k ch i. ⊎-elim (λ e. by lt (ap a e) refl (itself (a (2 * j + 1)))) (λ u. let e : k ≡ (2 * j + 1) + 1 = omega arith in by lt (ap a e) refl f) (cases-eq k (2 * j + 1)),
     )
 
-    pub right-child : (a : ℕ → ℕ) (j n : ℕ) → (2 * j + 1) + 1 < n → lt (a ((2 * j + 1) + 1)) (a (2 * j + 1)) ≡ true → FirstChild lt a j n (Some ((2 * j + 1) + 1))
+    right-child : (a : ℕ → ℕ) (j n : ℕ) → (2 * j + 1) + 1 < n → lt (a ((2 * j + 1) + 1)) (a (2 * j + 1)) ≡ true → FirstChild lt a j n (Some ((2 * j + 1) + 1))
     right-child a j n l t = (
       record { low = omega arith; high = omega arith },
       l,
       λ k ch i. ⊎-elim (λ e. by lt (ap a e) refl (r .one-way _ _ t)) (λ u. let e : k ≡ (2 * j + 1) + 1 = omega arith in by lt (ap a e) refl (itself (a ((2 * j + 1) + 1)))) (cases-eq k (2 * j + 1)),
     )
+
+    pub earlier-child : (a : ℕ → ℕ) (j n : ℕ) → (2 * j + 1) + 1 < n → FirstChild lt a j n (Some (cond (lt (a ((2 * j + 1) + 1)) (a (2 * j + 1))) ((2 * j + 1) + 1) (2 * j + 1)))
+    earlier-child a j n l =
+        cond-both (lt (a ((2 * j + 1) + 1)) (a (2 * j + 1))) ((2 * j + 1) + 1) (2 * j + 1) (λ c. FirstChild lt a j n (Some c))
+        (right-child a j n l) (left-child a j n (omega arith))

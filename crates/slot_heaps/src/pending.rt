@@ -19,6 +19,14 @@ use crate::slots::Slot;
 use crate::timer::Timer;
 use times::Time;
 
+// The slot that is free first by hard time.
+fn free_slot<T: Time>(slots: &[Slot<T>], pending: u16) -> u16
+    requires { ⌜ pending < length (now slots) ⌝ }
+    ensures { λ r. ⌜ r ≡ slot-at by-hard (now (slots .entry)) pending ⌝ }
+{
+    slot_at::<T, ByHard>(slots, pending)
+}
+
 fn fill<T: Time>(slots: &mut [Slot<T>], slot: u16, timer: Timer<T>)
     requires { ⌜ slot < length (now slots) ⌝ }
     ensures { λ _. ⌜ Filled slot timer (now (slots .entry)) (now (slots .exit)) ⌝ }
@@ -36,7 +44,7 @@ pub fn insert<T: Time>(slots: &mut [Slot<T>], pending: u16, timer: Timer<T>)
     ensures listed { λ _. ⌜ Inserted timer (listed pending (now (slots .entry))) (listed (pending + 1) (now (slots .exit))) ⌝ }
     ensures ordered { λ _. ⌜ (BothHeaped (T·Time .before) pending (now (slots .entry)) → BothHeaped (T·Time .before) (pending + 1) (now (slots .exit))) ⌝ }
 {
-    let slot = slot_at::<T, ByHard>(slots, pending);
+    let slot = free_slot(slots, pending);
     fill(slots, slot, timer);
     push::<T, ByHard>(slots, slot, pending);
     push::<T, BySoft>(slots, slot, pending);
