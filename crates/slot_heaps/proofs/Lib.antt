@@ -1,12 +1,12 @@
 pub mod Firsts
 mod Gaps
 mod Halving
-mod Heads
-mod Inserting
-mod Laying
+pub mod Heads
+pub mod Inserting
+pub mod Laying
 mod Marking
 mod Marks
-mod Orders
+pub mod Orders
 mod Pairing
 mod Picked
 mod Reading

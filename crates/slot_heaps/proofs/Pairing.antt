@@ -34,16 +34,19 @@ swapped-by-sets xs ys p q lp lq e =
     let s = swapped-from-exchanged xs ys p q 0 lp lq (e ∙ exchanged-is xs p q 0 lp lq) in
     record { here = s .0; there = s .1; rest = s .2 }
 
+flipped : {a b : ℕ → ℕ} {p q : ℕ} → Swapped a b p q → Swapped a b q p
+flipped s = record { here = s .there; there = s .here; rest = λ k u v. s .rest k v u }
+
 -- the two halves of the links after an exchange: the slots at p and q, and the places of these two slots
 pub exchanged-links :
     (n : ℕ) (ss ss′ ps ps′ : List ℕ) (p q : ℕ) →
     let at : List ℕ → ℕ → ℕ = λ xs k. getD xs k 0 in
     length ss ≡ n → length ps ≡ n → p < n → q < n → Paired n (at ss) (at ps) →
-    ss′ ≡ set (set ss p (at ss q)) q (at ss p) → ps′ ≡ set (set ps (at ss p) q) (at ss q) p →
+    ss′ ≡ set (set ss p (at ss q)) q (at ss p) → ps′ ≡ set (set ps (at ss q) p) (at ss p) q →
     Paired n (at ss′) (at ps′) × Swapped (at ss) (at ss′) p q × Swapped (at ps) (at ps′) (at ss p) (at ss q)
 exchanged-links n ss ss′ ps ps′ p q la lp′ lp lq h ea ep =
     let at : List ℕ → ℕ → ℕ = λ xs k. getD xs k 0 in
     let s = swapped-by-sets ss ss′ p q (omega arith) (omega arith) ea in
-    let is : ps′ ≡ set (set ps (at ss p) (at ps (at ss q))) (at ss q) (at ps (at ss p)) = let x = h .0 p lp .1 in let y = h .0 q lq .1 in cc in
-    let t = swapped-by-sets ps ps′ (at ss p) (at ss q) (omega (arith, h .0 p lp .0)) (omega (arith, h .0 q lq .0)) is in
+    let is : ps′ ≡ set (set ps (at ss q) (at ps (at ss p))) (at ss p) (at ps (at ss q)) = let x = h .0 p lp .1 in let y = h .0 q lq .1 in cc in
+    let t = flipped (swapped-by-sets ps ps′ (at ss q) (at ss p) (omega (arith, h .0 q lq .0)) (omega (arith, h .0 p lp .0)) is) in
     (paired-swapped n (at ss) (at ps) (at ss′) (at ps′) p q lp lq h s t, s, t)

@@ -1,12 +1,12 @@
 -- What a sift keeps from turn to turn.
 use mathlib.Core.Path.{_≡_, _∙_, refl, sym, ap, subst}
 use mathlib.Core.Logic.{⊎-elim}
-use mathlib.Core.Bool.{Bool, true, false}
+use mathlib.Core.Bool.{Bool, true, false, cond}
 use mathlib.Core.List.{List}
 use Prim.Native.Nat.{ℕ, _+_, _-_, _*_, _/_, _<_, _≤_}
 use native.Mathlib.Omega.{arith}
 use Rattle.std.specs.declared.option.Option.the-variants.{Some}
-use Rattle.std.proofs.shelf.Tests.{cases-eq, cases-bool}
+use Rattle.std.proofs.shelf.Tests.{cases-eq, cases-bool, cond-both}
 use Rattle.slot_heaps.specs.declared.slots.Link.{Link}
 use Rattle.slot_heaps.specs.declared.slots.Slot.{Slot}
 use Rattle.slot_heaps.specs.Columns.{slot-at, Kept}
@@ -48,9 +48,8 @@ module _ (lt : ℕ → ℕ → Bool) where
   pub up-rests : (a b : ℕ → ℕ) (j₀ j : ℕ) → Over lt b j → GoingUp a j₀ b j → Rises lt a j₀ b
   up-rests a b j₀ j o was = λ n l g u. let h = was n l g u in closes lt b j n (h .0) (h .1) o
 
-  -- the parent's slot stays under what was over it
-  pub over-parent : (a : ℕ → ℕ) (j : ℕ) → lt (a j) (a ((j - 1) / 2)) ≡ false → Over lt a j
-  over-parent a j f = λ p ch. let e : p ≡ (j - 1) / 2 = omega arith in subst (λ q. lt (a j) (a q) ≡ false) (sym e) f
+  pub down-ends : (a b : ℕ → ℕ) (j₀ j n : ℕ) → n ≤ j * 2 + 1 → GoingDown n a j₀ b j → Sinks lt a j₀ n b
+  down-ends a b j₀ j n le was = λ g o. let h = was g o in closes lt b j n (h .0) (λ k c l. absurd (omega arith)) (h .1)
 
   module _ (r : Ranks lt) where
     pub itself : (i : ℕ) → lt i i ≡ false
@@ -76,16 +75,21 @@ module _ (lt : ℕ → ℕ → Bool) where
       λ k ch i. let e : k ≡ 2 * j + 1 = omega arith in by lt (ap a e) refl (itself (a (2 * j + 1))),
     )
 
-    pub left-child : (a : ℕ → ℕ) (j n : ℕ) → 2 * j + 1 < n → lt (a ((2 * j + 1) + 1)) (a (2 * j + 1)) ≡ false → FirstChild lt a j n (Some (2 * j + 1))
+    left-child : (a : ℕ → ℕ) (j n : ℕ) → 2 * j + 1 < n → lt (a ((2 * j + 1) + 1)) (a (2 * j + 1)) ≡ false → FirstChild lt a j n (Some (2 * j + 1))
     left-child a j n l f = (
       record { low = omega arith; high = omega arith },
       l,
       λ k ch i. ⊎-elim (λ e. by lt (ap a e) refl (itself (a (2 * j + 1)))) (λ u. let e : k ≡ (2 * j + 1) + 1 = omega arith in by lt (ap a e) refl f) (cases-eq k (2 * j + 1)),
     )
 
-    pub right-child : (a : ℕ → ℕ) (j n : ℕ) → (2 * j + 1) + 1 < n → lt (a ((2 * j + 1) + 1)) (a (2 * j + 1)) ≡ true → FirstChild lt a j n (Some ((2 * j + 1) + 1))
+    right-child : (a : ℕ → ℕ) (j n : ℕ) → (2 * j + 1) + 1 < n → lt (a ((2 * j + 1) + 1)) (a (2 * j + 1)) ≡ true → FirstChild lt a j n (Some ((2 * j + 1) + 1))
     right-child a j n l t = (
       record { low = omega arith; high = omega arith },
       l,
       λ k ch i. ⊎-elim (λ e. by lt (ap a e) refl (r .one-way _ _ t)) (λ u. let e : k ≡ (2 * j + 1) + 1 = omega arith in by lt (ap a e) refl (itself (a ((2 * j + 1) + 1)))) (cases-eq k (2 * j + 1)),
     )
+
+    pub earlier-child : (a : ℕ → ℕ) (j n : ℕ) → (2 * j + 1) + 1 < n → FirstChild lt a j n (Some (cond (lt (a ((2 * j + 1) + 1)) (a (2 * j + 1))) ((2 * j + 1) + 1) (2 * j + 1)))
+    earlier-child a j n l =
+        cond-both (lt (a ((2 * j + 1) + 1)) (a (2 * j + 1))) ((2 * j + 1) + 1) (2 * j + 1) (λ c. FirstChild lt a j n (Some c))
+        (right-child a j n l) (left-child a j n (omega arith))

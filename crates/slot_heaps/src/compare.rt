@@ -1,5 +1,6 @@
 // Which of two timers comes first in a heap.
 ghost use mathlib.Core.Path.{_≡_};
+ghost use mathlib.Core.Bool.{cond};
 ghost use Prim.Native.Nat.{_<_};
 ghost use lib.ListN.{length};
 ghost use Rattle.slot_heaps.specs.Columns.{slot-at};
@@ -36,4 +37,14 @@ pub fn precedes<T: Time, K: Key<T>>(slots: &[Slot<T>], p: u16, q: u16) -> bool
     let i = slot_at::<T, K>(slots, p);
     let j = slot_at::<T, K>(slots, q);
     comes_first::<T, K>(&slots[i as usize].timer, &slots[j as usize].timer)
+}
+
+// Of two places the one whose timer comes first, and p where neither does.
+pub fn earlier<T: Time, K: Key<T>>(slots: &[Slot<T>], p: u16, q: u16) -> u16
+    requires linked { ⌜ Linked (K·Key .link) (now slots) ⌝ }
+    requires first { ⌜ p < length (now slots) ⌝ }
+    requires second { ⌜ q < length (now slots) ⌝ }
+    ensures { λ r. ⌜ r ≡ cond (order (T·Time .before) (K·Key .time) (now (slots .entry)) (slot-at (K·Key .link) (now (slots .entry)) q) (slot-at (K·Key .link) (now (slots .entry)) p)) q p ⌝ }
+{
+    if precedes::<T, K>(slots, q, p) { q } else { p }
 }

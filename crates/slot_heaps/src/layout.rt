@@ -12,8 +12,7 @@ use crate::keys::BySoft;
 use crate::keys::HardKey;
 use crate::keys::Key;
 use crate::keys::SoftKey;
-use crate::links::set_at;
-use crate::links::set_place;
+use crate::links::put;
 use crate::slots::Slot;
 use times::Time;
 
@@ -23,8 +22,7 @@ fn lay_out_heap<T: Time, K: Key<T>>(slots: &mut [Slot<T>])
     ensures kept { λ _. ⌜ Kept (K·Key .other) (now (slots .entry)) (now (slots .exit)) ⌝ }
 {
     for i in 0..slots.len() as u16 {
-        set_at::<T, K>(slots, i, i);
-        set_place::<T, K>(slots, i, i);
+        put::<T, K>(slots, i, i);
     }
 }
 

@@ -23,7 +23,7 @@ pub fn place_of<T: Time, K: Key<T>>(slots: &[Slot<T>], slot: u16) -> u16
     K::link(&slots[slot as usize]).place
 }
 
-pub fn set_at<T: Time, K: Key<T>>(slots: &mut [Slot<T>], place: u16, slot: u16)
+fn set_at<T: Time, K: Key<T>>(slots: &mut [Slot<T>], place: u16, slot: u16)
     requires { ⌜ place < length (now slots) ⌝ }
     ensures ats { λ _. ⌜ ats (K·Key .link) (now (slots .exit)) ≡ set (ats (K·Key .link) (now (slots .entry))) place slot ⌝ }
     ensures places { λ _. ⌜ places (K·Key .link) (now (slots .exit)) ≡ places (K·Key .link) (now (slots .entry)) ⌝ }
@@ -40,7 +40,7 @@ pub fn set_at<T: Time, K: Key<T>>(slots: &mut [Slot<T>], place: u16, slot: u16)
     );
 }
 
-pub fn set_place<T: Time, K: Key<T>>(slots: &mut [Slot<T>], slot: u16, place: u16)
+fn set_place<T: Time, K: Key<T>>(slots: &mut [Slot<T>], slot: u16, place: u16)
     requires { ⌜ slot < length (now slots) ⌝ }
     ensures ats { λ _. ⌜ ats (K·Key .link) (now (slots .exit)) ≡ ats (K·Key .link) (now (slots .entry)) ⌝ }
     ensures places { λ _. ⌜ places (K·Key .link) (now (slots .exit)) ≡ set (places (K·Key .link) (now (slots .entry))) slot place ⌝ }
@@ -49,6 +49,18 @@ pub fn set_place<T: Time, K: Key<T>>(slots: &mut [Slot<T>], slot: u16, place: u1
     let s = &mut slots[slot as usize];
     let link = K::link(s);
     K::set_link(s, Link { at: link.at, place });
+}
+
+// Puts a slot at a place.
+pub fn put<T: Time, K: Key<T>>(slots: &mut [Slot<T>], place: u16, slot: u16)
+    requires place { ⌜ place < length (now slots) ⌝ }
+    requires slot { ⌜ slot < length (now slots) ⌝ }
+    ensures ats { λ _. ⌜ ats (K·Key .link) (now (slots .exit)) ≡ set (ats (K·Key .link) (now (slots .entry))) place slot ⌝ }
+    ensures places { λ _. ⌜ places (K·Key .link) (now (slots .exit)) ≡ set (places (K·Key .link) (now (slots .entry))) slot place ⌝ }
+    ensures kept { λ _. ⌜ Kept (K·Key .other) (now (slots .entry)) (now (slots .exit)) ⌝ }
+{
+    set_at::<T, K>(slots, place, slot);
+    set_place::<T, K>(slots, slot, place);
 }
 
 // Exchanges the slots at two places of the heap.
@@ -63,8 +75,6 @@ pub fn exchange<T: Time, K: Key<T>>(slots: &mut [Slot<T>], p: u16, q: u16)
 {
     let i = slot_at::<T, K>(slots, p);
     let j = slot_at::<T, K>(slots, q);
-    set_at::<T, K>(slots, p, j);
-    set_at::<T, K>(slots, q, i);
-    set_place::<T, K>(slots, i, q);
-    set_place::<T, K>(slots, j, p);
+    put::<T, K>(slots, p, j);
+    put::<T, K>(slots, q, i);
 }

@@ -5,6 +5,7 @@ ghost use Rattle.slot_heaps.specs.Columns.{slot-at};
 ghost use Rattle.slot_heaps.specs.HeapOrder.{FirstChild, Rising};
 ghost use Rattle.slot_heaps.specs.Links.{Linked, Moved};
 ghost use Rattle.slot_heaps.specs.Sifts.{order, Rises, Sinks, Mends};
+use crate::compare::earlier;
 use crate::compare::precedes;
 use crate::keys::Key;
 use crate::links::exchange;
@@ -54,10 +55,7 @@ fn first_child<T: Time, K: Key<T>>(slots: &[Slot<T>], p: u16, count: u16) -> Opt
     if right >= count {
         return Some(left);
     }
-    if precedes::<T, K>(slots, right, left) {
-        return Some(right);
-    }
-    Some(left)
+    Some(earlier::<T, K>(slots, left, right))
 }
 
 // Moves the slot at place `from` down among the places below `count`, until no child comes before it.

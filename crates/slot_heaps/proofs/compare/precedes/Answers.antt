@@ -17,3 +17,9 @@ returns g c =
     c .comes-first .ensures
     ∙ sym (λ k. ahead (sooner before time) (x k) (y k))
     ∙ (λ k. order before time xs (i .ensures k) (j .ensures k))
+
+pub index-slots-i : need.index-slots-i
+index-slots-i g c = omega (arith, c .pre .linked .0 (c .args .p) (c .pre .first) .0)
+
+pub index-slots-j : need.index-slots-j
+index-slots-j g c = omega (arith, c .pre .linked .0 (c .args .q) (c .pre .second) .0)

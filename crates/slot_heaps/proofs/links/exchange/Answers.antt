@@ -11,12 +11,12 @@ pub returns : need.returns
 returns g c =
     let f = g .K·Key .link in
     let xs = c .args .slots .now in
-    let ys = c .set-place-2 .last .slots in
+    let ys = c .put-2 .last .slots in
     let p = c .args .p in
     let q = c .args .q in
     let ss = ats f xs in
     let ea : ats f ys ≡ set (set ss p (getD ss q 0)) q (getD ss p 0) = cc in
-    let ep : places f ys ≡ set (set (places f xs) (getD ss p 0) q) (getD ss q 0) p = cc in
+    let ep : places f ys ≡ set (set (places f xs) (getD ss q 0) p) (getD ss p 0) q = cc in
     let la : length ss ≡ length xs = length-ats f xs in
     let lp : length (places f xs) ≡ length xs = length-places f xs in
     let long : length xs ≡ length ys = omega arith in
@@ -27,3 +27,9 @@ returns g c =
       moved = r .2;
       kept = record { timers = cc; others = cc };
     }
+
+pub put-requires : need.put-requires
+put-requires g c κs = record { place = c .pre .first; slot = omega (arith, c .pre .linked .0 (c .args .q) (c .pre .second) .0) }
+
+pub put-requires-2 : need.put-requires-2
+put-requires-2 g c κs = record { place = omega (arith, c .pre .second); slot = omega (arith, c .pre .linked .0 (c .args .p) (c .pre .first) .0) }

@@ -46,6 +46,7 @@ returns g c =
       standing = standing-then s false (n + 1) n xs ys zs (hard .marked) (soft .marked) (omega (arith, h .1)) h;
       timers = same;
       value = read;
+      slots = marks-then s false (n + 1) n xs ys zs (hard .marked) (soft .marked);
       listed = listed-removed n s _ xs zs (record { within = c .pre .within; pending = omega (arith, c .pre .there); timer = read }) (marks-then s false (n + 1) n xs ys zs (hard .marked) (soft .marked)) same;
       ordered = λ b. (
         heaped-same by-hard ys zs (soft .marked .kept .others) before (λ t. t .hard) n (soft .marked .kept .timers) (hard .ordered (b .0)),

@@ -26,3 +26,6 @@ returns g c =
     } in
     let ranks = precedes-ranks (g .T·Time .before) (g .K·Key .time) (g .T·Time·met .ordered) (timers xs) in
     (held, c .slot-at-slot .ensures, top-is-first (g .T·Time .before) (g .K·Key .time) link n xs i _ ranks (c .pre .linked) (c .pre .same) held (c .slot-at-slot .ensures))
+
+pub index-slots-slot : need.index-slots-slot
+index-slots-slot g c = omega (arith, c .pre .linked .0 0 (omega arith) .0)

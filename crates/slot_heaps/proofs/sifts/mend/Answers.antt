@@ -26,3 +26,6 @@ returns-else-rises g c =
       moved = c .sift-down .ensures .moved;
       ordered = λ gap. c .sift-down .ensures .ordered gap (c .if-rises .ensures tt);
     }
+
+pub sift-down-requires : need.sift-down-requires
+sift-down-requires g c κs = c .pre

@@ -8,7 +8,7 @@ use Rattle.slot_heaps.specs.HeapOrder.{FirstChild}
 use Rattle.slot_heaps.specs.Sooner.{precedes}
 use Rattle.slot_heaps.proofs.Halving.{log2-le, log2-falls}
 use Rattle.slot_heaps.proofs.Orders.{precedes-ranks}
-use Rattle.slot_heaps.proofs.Sifting.{moved-exchanged, down-steps, down-rests}
+use Rattle.slot_heaps.proofs.Sifting.{moved-exchanged, down-steps, down-rests, down-ends}
 use Rattle.slot_heaps.proofs.sifts.sift_down.Needs as need
 
 pub returns-then-not-precedes : need.returns-then-not-precedes
@@ -56,3 +56,19 @@ loop-child-less g c =
     let low = child .0 .low in
     let falls = log2-falls (p + 1) (k + 1) (omega arith) (omega arith) in
     omega (arith, falls, log2-le (k + 1) (c .args .count) (omega (arith, child .1)))
+
+pub returns : need.returns
+returns g c =
+    let lt = precedes (g .T·Time .before) (g .K·Key .time) in
+    let link = g .K·Key .link in
+    record {
+      moved = c .loop-child .inv .1;
+      ordered = down-ends (lt (timers (c .args .slots .now))) (slot-at link (c .args .slots .now)) (slot-at link (c .loop-child .slots))
+          (c .args .from) (c .loop-child .p) (c .args .count) (c .in-rest .ensures tt) (c .loop-child .inv .2);
+    }
+
+pub precedes-requires : need.precedes-requires
+precedes-requires g c κs = record { linked = c .loop-child .inv .1 .linked; first = omega (arith, c .in-Some .ensures tt .1); second = omega (arith, c .loop-child .inv .0) }
+
+pub exchange-requires : need.exchange-requires
+exchange-requires g c κs = record { linked = c .loop-child .inv .1 .linked; first = omega (arith, c .loop-child .inv .0); second = omega (arith, c .in-Some .ensures tt .1) }
