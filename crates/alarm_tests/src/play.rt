@@ -72,10 +72,10 @@ macro_rules! play_rows {
     }};
 }
 
-pub fn play<T: Plain, A: Alarm<T>>(alarm: &mut A, rows: &[Row]) -> Result<(), Fail> {
+pub(crate) fn play<T: Plain, A: Alarm<T>>(alarm: &mut A, rows: &[Row]) -> Result<(), Fail> {
     play_rows!(T, alarm, rows)
 }
 
-pub fn play_short<T: Plain, S: ShortAlarm<T>>(alarm: &mut S, rows: &[Row]) -> Result<(), Fail> {
+pub(crate) fn play_short<T: Plain, S: ShortAlarm<T>>(alarm: &mut S, rows: &[Row]) -> Result<(), Fail> {
     play_rows!(T, alarm, rows)
 }

@@ -12,7 +12,7 @@ use times::Measured;
 use times::Time;
 
 // Sets the short alarm to the goal, or as far ahead as it reaches if the goal is further.
-pub fn aim<T: Measured, S: ShortAlarm<T>>(short: &mut S, goal: T) -> Result<(), AlarmFault>
+pub(crate) fn aim<T: Measured, S: ShortAlarm<T>>(short: &mut S, goal: T) -> Result<(), AlarmFault>
     ensures value { λ r. ⌜ Sets (T·Time .before) (S·ShortAlarm .clock) (S·ShortAlarm .due) (now (short .entry)) (now (short .exit)) (stage-to (T·Time .before) (capped (T·Measured .place) (T·Measured .at) (T·Measured .last) (S·ShortAlarm .clock (now (short .entry))) (S·ShortAlarm .reach)) goal) r ⌝ }
     ensures agrees { λ _. ⌜ Agrees (T·Time .before) (T·Measured .place) ⌝ }
 {
@@ -24,7 +24,7 @@ pub fn aim<T: Measured, S: ShortAlarm<T>>(short: &mut S, goal: T) -> Result<(), 
 }
 
 // Passes the short alarm to `t`, or to the goal if that comes first, and counts its rings.
-pub fn follow<T: Measured, S: ShortAlarm<T>>(
+pub(crate) fn follow<T: Measured, S: ShortAlarm<T>>(
     short: &mut S,
     goal: T,
     t: T,
@@ -47,7 +47,7 @@ pub fn follow<T: Measured, S: ShortAlarm<T>>(
 }
 
 // Passes the short alarm to `t`, with no ring on the way.
-pub fn pass_silent<T: Measured, S: ShortAlarm<T>>(
+pub(crate) fn pass_silent<T: Measured, S: ShortAlarm<T>>(
     short: &mut S,
     t: T,
 ) -> Result<Passage, AlarmFault>

@@ -6,7 +6,7 @@ use times::Measured;
 use times::Time;
 
 // The due time, where a pass to `t` rings.
-pub fn ring_before<T: Time>(clock: T, due: Option<T>, t: T) -> Result<Option<T>, AlarmFault>
+pub(crate) fn ring_before<T: Time>(clock: T, due: Option<T>, t: T) -> Result<Option<T>, AlarmFault>
     ensures { λ r. ⌜ RingBefore (T·Time .before) clock due t r ⌝ }
 {
     if t.before(clock) {
@@ -19,7 +19,7 @@ pub fn ring_before<T: Time>(clock: T, due: Option<T>, t: T) -> Result<Option<T>,
 }
 
 // The ticks from the clock to `t`, where they are within the reach.
-pub fn ticks_within<T: Measured>(clock: T, t: T, reach: u16) -> Result<u16, AlarmFault>
+pub(crate) fn ticks_within<T: Measured>(clock: T, t: T, reach: u16) -> Result<u16, AlarmFault>
     ensures value { λ r. ⌜ TicksWithin (T·Time .before) (T·Measured .place) (T·Measured .at) reach clock t r ⌝ }
     ensures agrees { λ _. ⌜ Agrees (T·Time .before) (T·Measured .place) ⌝ }
 {

@@ -18,7 +18,7 @@ use std::test::*;
 use times::Plain;
 
 // Inserts a timer of that number, with times from the dice.
-pub fn arm<T: Plain>(
+pub(crate) fn arm<T: Plain>(
     slots: &mut [Slot<T>],
     pending: u16,
     entries: &mut [Entry],
@@ -59,7 +59,7 @@ fn retire(entries: &mut [Entry], number: u32) -> Result<(), Fail> {
 }
 
 // Removes a slot; its timer is one that was pending.
-pub fn take<T: Plain>(
+pub(crate) fn take<T: Plain>(
     slots: &mut [Slot<T>],
     slot: u16,
     left: u16,
@@ -93,7 +93,7 @@ fn compare<T: Plain>(
     check_eq(rank(entries[number], timer.number, by_hard), ranks[0])
 }
 
-pub fn compare_both<T: Plain>(
+pub(crate) fn compare_both<T: Plain>(
     slots: &[Slot<T>],
     pending: u16,
     entries: &[Entry],
@@ -104,7 +104,7 @@ pub fn compare_both<T: Plain>(
     compare(first_by_soft(slots, pending), entries, false)
 }
 
-pub fn pop_by_hard<T: Plain>(
+pub(crate) fn pop_by_hard<T: Plain>(
     slots: &mut [Slot<T>],
     pending: u16,
     entries: &mut [Entry],
@@ -118,7 +118,7 @@ pub fn pop_by_hard<T: Plain>(
     }
 }
 
-pub fn pop_by_soft<T: Plain>(
+pub(crate) fn pop_by_soft<T: Plain>(
     slots: &mut [Slot<T>],
     pending: u16,
     entries: &mut [Entry],
@@ -133,7 +133,7 @@ pub fn pop_by_soft<T: Plain>(
 }
 
 // Removes the timer of that number, if it is pending.
-pub fn cancel<T: Plain>(
+pub(crate) fn cancel<T: Plain>(
     slots: &mut [Slot<T>],
     pending: u16,
     entries: &mut [Entry],
@@ -157,7 +157,7 @@ pub fn cancel<T: Plain>(
 }
 
 // One step of the sequence: an insert while there is room and the dice say so, or else a remove, by either heap or by number.
-pub fn step<T: Plain>(
+pub(crate) fn step<T: Plain>(
     slots: &mut [Slot<T>],
     pending: u16,
     entries: &mut [Entry],

@@ -14,13 +14,13 @@ pub const GONE: Entry = Entry {
 };
 
 // A timer's rank in a heap, as one number: by time, then by number.
-pub fn rank(e: Entry, number: u32, by_hard: bool) -> u64 {
+pub(crate) fn rank(e: Entry, number: u32, by_hard: bool) -> u64 {
     let time = if by_hard { e.hard } else { e.soft };
     (u64::from(time) << 32) | u64::from(number)
 }
 
 // The ranks of the pending timers in rising order, then u64::MAX.
-pub fn sort_ranks(ranks: &mut [u64], entries: &[Entry], by_hard: bool) {
+pub(crate) fn sort_ranks(ranks: &mut [u64], entries: &[Entry], by_hard: bool) {
     let mut number: u32 = 0;
     for (r, e) in ranks.iter_mut().zip(entries) {
         *r = if e.pending {
@@ -34,6 +34,6 @@ pub fn sort_ranks(ranks: &mut [u64], entries: &[Entry], by_hard: bool) {
 }
 
 // The next number of a fixed sequence.
-pub fn next(seed: u32) -> u32 {
+pub(crate) fn next(seed: u32) -> u32 {
     seed.wrapping_mul(1_664_525).wrapping_add(1_013_904_223)
 }

@@ -28,7 +28,7 @@ fn comes_first<T: Time, K: Key<T>>(x: &Timer<T>, y: &Timer<T>) -> bool
 }
 
 // Whether the timer at place p comes before the one at place q.
-pub fn precedes<T: Time, K: Key<T>>(slots: &[Slot<T>], p: u16, q: u16) -> bool
+pub(crate) fn precedes<T: Time, K: Key<T>>(slots: &[Slot<T>], p: u16, q: u16) -> bool
     requires linked { ⌜ Linked (K·Key .link) (now slots) ⌝ }
     requires first { ⌜ p < length (now slots) ⌝ }
     requires second { ⌜ q < length (now slots) ⌝ }
@@ -40,7 +40,7 @@ pub fn precedes<T: Time, K: Key<T>>(slots: &[Slot<T>], p: u16, q: u16) -> bool
 }
 
 // Of two places the one whose timer comes first, and p where neither does.
-pub fn earlier<T: Time, K: Key<T>>(slots: &[Slot<T>], p: u16, q: u16) -> u16
+pub(crate) fn earlier<T: Time, K: Key<T>>(slots: &[Slot<T>], p: u16, q: u16) -> u16
     requires linked { ⌜ Linked (K·Key .link) (now slots) ⌝ }
     requires first { ⌜ p < length (now slots) ⌝ }
     requires second { ⌜ q < length (now slots) ⌝ }

@@ -15,7 +15,7 @@ use crate::slots::Slot;
 use times::Time;
 
 // Puts a free slot into the heap of `count` slots.
-pub fn push<T: Time, K: Key<T>>(slots: &mut [Slot<T>], slot: u16, count: u16)
+pub(crate) fn push<T: Time, K: Key<T>>(slots: &mut [Slot<T>], slot: u16, count: u16)
     requires linked { ⌜ Linked (K·Key .link) (now slots) ⌝ }
     requires within { ⌜ slot < length (now slots) ⌝ }
     requires free { ⌜ count ≤ place-of (K·Key .link) (now slots) slot ⌝ }
@@ -28,7 +28,7 @@ pub fn push<T: Time, K: Key<T>>(slots: &mut [Slot<T>], slot: u16, count: u16)
 }
 
 // Takes a slot out of the heap, which leaves `left` slots in it.
-pub fn take_out<T: Time, K: Key<T>>(slots: &mut [Slot<T>], slot: u16, left: u16)
+pub(crate) fn take_out<T: Time, K: Key<T>>(slots: &mut [Slot<T>], slot: u16, left: u16)
     requires linked { ⌜ Linked (K·Key .link) (now slots) ⌝ }
     requires small { ⌜ length (now slots) ≤ 4096 ⌝ }
     requires within { ⌜ slot < length (now slots) ⌝ }

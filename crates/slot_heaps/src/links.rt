@@ -9,14 +9,14 @@ use crate::slots::Link;
 use crate::slots::Slot;
 use times::Time;
 
-pub fn slot_at<T: Time, K: Key<T>>(slots: &[Slot<T>], place: u16) -> u16
+pub(crate) fn slot_at<T: Time, K: Key<T>>(slots: &[Slot<T>], place: u16) -> u16
     requires { ⌜ place < length (now slots) ⌝ }
     ensures { λ r. ⌜ r ≡ slot-at (K·Key .link) (now (slots .entry)) place ⌝ }
 {
     K::link(&slots[place as usize]).at
 }
 
-pub fn place_of<T: Time, K: Key<T>>(slots: &[Slot<T>], slot: u16) -> u16
+pub(crate) fn place_of<T: Time, K: Key<T>>(slots: &[Slot<T>], slot: u16) -> u16
     requires { ⌜ slot < length (now slots) ⌝ }
     ensures { λ r. ⌜ r ≡ place-of (K·Key .link) (now (slots .entry)) slot ⌝ }
 {
@@ -52,7 +52,7 @@ fn set_place<T: Time, K: Key<T>>(slots: &mut [Slot<T>], slot: u16, place: u16)
 }
 
 // Puts a slot at a place.
-pub fn put<T: Time, K: Key<T>>(slots: &mut [Slot<T>], place: u16, slot: u16)
+pub(crate) fn put<T: Time, K: Key<T>>(slots: &mut [Slot<T>], place: u16, slot: u16)
     requires place { ⌜ place < length (now slots) ⌝ }
     requires slot { ⌜ slot < length (now slots) ⌝ }
     ensures ats { λ _. ⌜ ats (K·Key .link) (now (slots .exit)) ≡ set (ats (K·Key .link) (now (slots .entry))) place slot ⌝ }
@@ -64,7 +64,7 @@ pub fn put<T: Time, K: Key<T>>(slots: &mut [Slot<T>], place: u16, slot: u16)
 }
 
 // Exchanges the slots at two places of the heap.
-pub fn exchange<T: Time, K: Key<T>>(slots: &mut [Slot<T>], p: u16, q: u16)
+pub(crate) fn exchange<T: Time, K: Key<T>>(slots: &mut [Slot<T>], p: u16, q: u16)
     requires linked { ⌜ Linked (K·Key .link) (now slots) ⌝ }
     requires first { ⌜ p < length (now slots) ⌝ }
     requires second { ⌜ q < length (now slots) ⌝ }

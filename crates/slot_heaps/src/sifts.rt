@@ -25,7 +25,7 @@ fn rises<T: Time, K: Key<T>>(slots: &[Slot<T>], p: u16) -> bool
 }
 
 // Moves the slot at place `from` up, until its parent does not come after it.
-pub fn sift_up<T: Time, K: Key<T>>(slots: &mut [Slot<T>], from: u16)
+pub(crate) fn sift_up<T: Time, K: Key<T>>(slots: &mut [Slot<T>], from: u16)
     requires linked { ⌜ Linked (K·Key .link) (now slots) ⌝ }
     requires within { ⌜ from < length (now slots) ⌝ }
     ensures moved { λ _. ⌜ Moved (K·Key .link) (K·Key .other) (from + 1) (now (slots .entry)) (now (slots .exit)) ⌝ }
@@ -59,7 +59,7 @@ fn first_child<T: Time, K: Key<T>>(slots: &[Slot<T>], p: u16, count: u16) -> Opt
 }
 
 // Moves the slot at place `from` down among the places below `count`, until no child comes before it.
-pub fn sift_down<T: Time, K: Key<T>>(slots: &mut [Slot<T>], from: u16, count: u16)
+pub(crate) fn sift_down<T: Time, K: Key<T>>(slots: &mut [Slot<T>], from: u16, count: u16)
     requires linked { ⌜ Linked (K·Key .link) (now slots) ⌝ }
     requires small { ⌜ length (now slots) ≤ 4096 ⌝ }
     requires within { ⌜ from < count ⌝ }
@@ -78,7 +78,7 @@ pub fn sift_down<T: Time, K: Key<T>>(slots: &mut [Slot<T>], from: u16, count: u1
 }
 
 // Moves the slot at place p up or down among the places below `count`, to where it belongs.
-pub fn mend<T: Time, K: Key<T>>(slots: &mut [Slot<T>], p: u16, count: u16)
+pub(crate) fn mend<T: Time, K: Key<T>>(slots: &mut [Slot<T>], p: u16, count: u16)
     requires linked { ⌜ Linked (K·Key .link) (now slots) ⌝ }
     requires small { ⌜ length (now slots) ≤ 4096 ⌝ }
     requires within { ⌜ p < count ⌝ }
