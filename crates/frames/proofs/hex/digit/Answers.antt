@@ -10,11 +10,11 @@ returns-in-0-to-9 c = record { answer = digit_answers c.args.sign _ (omega arith
 pub returns-in-A-to-F : goal.returns-in-A-to-F
 returns-in-A-to-F c = record { answer = digit_answers c.args.sign _ (omega arith) (grind (arith, nat_tests)); small = search rules }
 
-pub returns-in-default : goal.returns-in-default
-returns-in-default c = record { answer = digit_refuses c.args.sign (λ d h e. grind (arith, nat_tests)); small = search rules }
+pub returns-in_default : goal.returns-in_default
+returns-in_default c = record { answer = digit_refuses c.args.sign (λ d h e. grind (arith, nat_tests)); small = search rules }
 
-pub returns-in-default·2 : goal.returns-in-default·2
-returns-in-default·2 c = record { answer = digit_refuses c.args.sign (λ d h e. grind (arith, nat_tests)); small = search rules }
+pub returns-in_default-2 : goal.returns-in_default-2
+returns-in_default-2 c = record { answer = digit_refuses c.args.sign (λ d h e. grind (arith, nat_tests)); small = search rules }
 
-pub returns-in-default·3 : goal.returns-in-default·3
-returns-in-default·3 c = record { answer = digit_refuses c.args.sign (λ d h e. grind (arith, nat_tests)); small = search rules }
+pub returns-in_default-3 : goal.returns-in_default-3
+returns-in_default-3 c = record { answer = digit_refuses c.args.sign (λ d h e. grind (arith, nat_tests)); small = search rules }

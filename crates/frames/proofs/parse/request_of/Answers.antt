@@ -20,12 +20,12 @@ pub returns-in-5 : goal.returns-in-5
 returns-in-5 c = c.close.ensures ∙ by_kind c.args.frame.now 5 close_kind refl (omega arith) (omega arith)
 
 pub returns-in-6 : goal.returns-in-6
-returns-in-6 c = c.arm-by-purpose.ensures ∙ by_kind c.args.frame.now 6 purpose_kind refl (omega arith) (omega arith)
+returns-in-6 c = c.arm_by_purpose.ensures ∙ by_kind c.args.frame.now 6 purpose_kind refl (omega arith) (omega arith)
 
-pub returns-in-default : goal.returns-in-default
-returns-in-default c =
+pub returns-in_default : goal.returns-in_default
+returns-in_default c =
     let e : get_or c.args.frame.now 0 0 ≡ 0 = get_or_past c.args.frame.now 0 0 (omega (arith, ltb-true)) in
     unknown_kind c.args.frame.now (λ b l h g. omega arith)
 
-pub returns-in-default·2 : goal.returns-in-default·2
-returns-in-default·2 c = unknown_kind c.args.frame.now (λ b l h g. omega arith)
+pub returns-in_default-2 : goal.returns-in_default-2
+returns-in_default-2 c = unknown_kind c.args.frame.now (λ b l h g. omega arith)

@@ -7,5 +7,5 @@ use Rattle.frames.proofs.write.write_advance.Goals as goal
 
 pub returns : goal.returns
 returns c =
-    let payload = ap (λ (t : List ℕ). 4 ∷ t) (eight_bytes c.args.to _ c.to-be-bytes.ensures) in
-    written (Advance c.args.to) _ c.args.buffer.now _ _ (omega arith) payload c.write-frame.ensures
+    let payload = ap (λ (t : List ℕ). 4 ∷ t) (eight_bytes c.args.to _ c.to_be_bytes.ensures) in
+    written (Advance c.args.to) _ c.args.buffer.now _ _ (omega arith) payload c.write_frame.ensures

@@ -12,7 +12,7 @@ returns c =
       sym n,
       omega arith,
       c.put.ensures
-          ∙ ap (λ (t : List ℕ). hexed t (2 * length c.args.payload.now) c.check-byte.result) c.put-all.ensures
-          ∙ ap (hexed _ (2 * length c.args.payload.now)) c.check-byte.ensures
+          ∙ ap (λ (t : List ℕ). hexed t (2 * length c.args.payload.now) c.check_byte.result) c.put_all.ensures
+          ∙ ap (hexed _ (2 * length c.args.payload.now)) c.check_byte.ensures
           ∙ line_stands c.args.payload.now c.args.buffer.now (omega arith),
     )

@@ -17,7 +17,7 @@ returns-then-byte-eq10 c =
     let n : length (take c.loop-i.i piece) ≡ c.loop-i.i = length-take-le c.loop-i.i piece (omega arith) in
     let used = ap (λ (m : ℕ). m + 1) (sym (ap length f.1 ∙ n)) in
     let line = c.loop-i.invariant.1 ∙ ap (λ (t : List ℕ). keeping (kept c.args.self.now.line ++ t)) (sym f.1) in
-    let t : Took (kept c.args.self.now.line) piece (c.loop-i.i + 1) (Some c.loop-i.self.line) (kept c.empty-line-self.result) = (f.0, used, line, c.empty-line-self.ensures) in
+    let t : Took (kept c.args.self.now.line) piece (c.loop-i.i + 1) (Some c.loop-i.self.line) (kept c.empty_line-self.result) = (f.0, used, line, c.empty_line-self.ensures) in
     record { took = t; within = omega arith; onward = λ some. omega arith; splits = λ past done s. split_took past done _ piece _ (Some c.loop-i.self.line) _ t s }
 
 pub loop-i-preserved : goal.loop-i-preserved

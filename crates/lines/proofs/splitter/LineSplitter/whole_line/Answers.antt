@@ -7,10 +7,10 @@ use Rattle.lines.proofs.LineSplits.{front_whole, front_cut, split_whole}
 use Rattle.lines.proofs.splitter.LineSplitter.whole_line.Goals as goal
 use Rattle.lines.proofs.splitter.LineSplitter.whole_line.Goals.{then-feed-lt-KEPT, else-feed-lt-KEPT}
 
-pub returns-then-not-is-empty : goal.returns-then-not-is-empty
-returns-then-not-is-empty c =
+pub returns-then-not-is_empty : goal.returns-then-not-is_empty
+returns-then-not-is_empty c =
     record {
-      found = λ none. absurd (eqb-false _ _ (sym c.if-not-is-empty.ensures) (ap length (c.as-slice.ensures ∙ none)));
+      found = λ none. absurd (eqb-false _ _ (sym c.if-not-is_empty.ensures) (ap length (c.as_slice.ensures ∙ none)));
       within = tt;
       splits = λ past done s. s;
     }
@@ -19,14 +19,14 @@ pub returns : goal.returns
 returns c =
     let piece : List ℕ = c.args.piece.now in
     let old : List ℕ = kept c.args.self.now.line in
-    let feed : ℕ = c.first-feed-feed.result in
-    let o : old ≡ [] = nil_from_length old (ap length (sym c.as-slice.ensures) ∙ eqb-true _ _ (sym c.if-not-is-empty.ensures)) in
-    let f : feeds piece ≡ true = c.first-feed-feed.ensures.found ∙ lt-ltb feed (length piece) (omega (arith, c.first-feed-feed.ensures.within, c.if-feed-piece.false)) in
-    let u : feed + 1 ≡ length (before_feed piece) + 1 = ap (λ (n : ℕ). n + 1) c.first-feed-feed.ensures.place in
+    let feed : ℕ = c.first_feed-feed.result in
+    let o : old ≡ [] = nil_from_length old (ap length (sym c.as_slice.ensures) ∙ eqb-true _ _ (sym c.if-not-is_empty.ensures)) in
+    let f : feeds piece ≡ true = c.first_feed-feed.ensures.found ∙ lt-ltb feed (length piece) (omega (arith, c.first_feed-feed.ensures.within, c.if-feed-piece.false)) in
+    let u : feed + 1 ≡ length (before_feed piece) + 1 = ap (λ (n : ℕ). n + 1) c.first_feed-feed.ensures.place in
     let t : take c.if-feed-lt-KEPT.len piece ≡ keeping (before_feed piece) =
     elim c.if-feed-lt-KEPT.branch [
-      | then-feed-lt-KEPT w ↦ ap (λ (n : ℕ). take n piece) w.len-is ∙ front_whole piece feed c.first-feed-feed.ensures.place w.if-feed-lt-KEPT.true
-      | else-feed-lt-KEPT w ↦ ap (λ (n : ℕ). take n piece) w.len-is ∙ front_cut piece feed c.first-feed-feed.ensures.place w.if-feed-lt-KEPT.false
+      | then-feed-lt-KEPT w ↦ ap (λ (n : ℕ). take n piece) w.len-is ∙ front_whole piece feed c.first_feed-feed.ensures.place w.if-feed-lt-KEPT.true
+      | else-feed-lt-KEPT w ↦ ap (λ (n : ℕ). take n piece) w.len-is ∙ front_cut piece feed c.first_feed-feed.ensures.place w.if-feed-lt-KEPT.false
     ] in
     record {
       found = (o, f, u, t);

@@ -4,6 +4,6 @@ use Rattle.times.proofs.places.Measured.ahead.Goals as goal
 
 pub returns-in-None : goal.returns-in-None
 returns-in-None g c =
-    let m = measure g.met.Self.Time.ordered c.checked-ahead.ensures.agrees g.met.Self.Measured.placed in
+    let m = measure g.met.Self.Time.ordered c.checked_ahead.ensures.agrees g.met.Self.Measured.placed in
     let same = same_place m c.last.result g.Self.Measured.last c.last.ensures in
     search rules
