@@ -153,7 +153,7 @@ module _ {A : Type 0} (before : A → A → Bool) (o : StrictOrder before) where
 
     -- the mark is on one entry
     pub marks_one : Distinct xs → Proper xs → Next xs w → (b : Bearer) × (filter (λ f. f.mark) (wake_up before w xs) ≡ entry w m b.timer ∷ [])
-    marks_one d proper next = let b = bearer_found next in (b, one b.timer b.stands b.at-w b.named)
+    marks_one d proper next = let b = bearer_found next in (b, one b.timer b.stands b.at_w b.named)
       where
         one : (b : Timer A) → In xs b → b.hard ≡ w → m ≡ Some b.number → filter (λ f. f.mark) (wake_up before w xs) ≡ entry w m b ∷ []
         one b i at_w named =

@@ -132,7 +132,7 @@ module _ {A : Type 0} (before : A → A → Bool) (o : StrictOrder before) where
     walked_after =
         let one = marks_one before o w xs d proper next in
         let e = joined (λ f. f.mark) (entry w (bearer before w xs) one.0.timer ∷ []) (marks r.entries) one.1 refl in
-        let at_w = sym one.0.at-w in
+        let at_w = sym one.0.at_w in
         record {
           test = λ x. not (ripe before w x) && rest.test x;
           left = rest.left ∙ kept_both rest.test (λ x. not (ripe before w x)) xs;

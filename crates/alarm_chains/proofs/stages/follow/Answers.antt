@@ -13,51 +13,51 @@ kind g agrees = measure g.met.T.Time.ordered agrees g.met.T.Measured.placed
 pub stages-init : goal.stages-init
 stages-init g c = chase_begins (kind g c.aim.ensures.agrees) g.S.ShortAlarm.reach c.args.goal c.args.t _ _ c.requires.forward c.requires.ahead c.aim.ensures.value
 
-pub overflow-add-rings : goal.overflow-add-rings
-overflow-add-rings g c =
-    let rang = c.in-ok-pass.was ∙ ap Ok c.in-Rang.is in
+pub overflow_add-rings : goal.overflow_add-rings
+overflow_add-rings g c =
+    let rang = c.in_ok-pass.was ∙ ap Ok c.in-Rang.is in
     record { fits = few_rings (kind g c.aim.ensures.agrees) g.met.S.ShortAlarm.reaching c.stages.invariant c.pass.ensures rang }
 
 pub returns-then-not-before : goal.returns-then-not-before
 returns-then-not-before g c =
     let m = kind g c.aim.ensures.agrees in
     let begun = (aim_accepted m g.S.ShortAlarm.reach _ c.args.goal c.requires.ahead _ c.aim.ensures.value).clocked in
-    let rang = c.in-ok-pass.was ∙ ap Ok c.in-Rang.is in
+    let rang = c.in_ok-pass.was ∙ ap Ok c.in-Rang.is in
     let reached : g.T.Time.before (g.S.ShortAlarm.clock c.pass.new.self) c.args.goal ≡ false = cc in
     let ended = rang_at_goal m g.met.S.ShortAlarm.reaching c.stages.invariant c.pass.ensures _ (ap g.T.Measured.place begun) c.requires.forward rang reached in
     record { value = ended.value; count = ended.count }
 
 pub stages-preserved : goal.stages-preserved
 stages-preserved g c =
-    let rang = c.in-ok-pass.was ∙ ap Ok c.in-Rang.is in
+    let rang = c.in_ok-pass.was ∙ ap Ok c.in-Rang.is in
     let short : g.T.Time.before (g.S.ShortAlarm.clock c.pass.new.self) c.args.goal ≡ true = cc in
     chase_on (kind g c.aim.ensures.agrees) g.met.S.ShortAlarm.reaching c.stages.invariant c.pass.ensures rang short c.aim-in-Rang.ensures.value
 
 pub stages-smaller : goal.stages-smaller
 stages-smaller g c =
-    let rang = c.in-ok-pass.was ∙ ap Ok c.in-Rang.is in
+    let rang = c.in_ok-pass.was ∙ ap Ok c.in-Rang.is in
     let short : g.T.Time.before (g.S.ShortAlarm.clock c.pass.new.self) c.args.goal ≡ true = cc in
     chase_falls (kind g c.aim.ensures.agrees) g.met.S.ShortAlarm.reaching c.stages.invariant c.pass.ensures rang short c.aim-in-Rang.ensures.value
 
 -- an aim short of the goal is not refused
-pub returns-in-err-aim-2 : goal.returns-in-err-aim-2
-returns-in-err-aim-2 g c =
-    let rang = c.in-ok-pass.was ∙ ap Ok c.in-Rang.is in
+pub returns-in_err-aim-2 : goal.returns-in_err-aim-2
+returns-in_err-aim-2 g c =
+    let rang = c.in_ok-pass.was ∙ ap Ok c.in-Rang.is in
     let short : g.T.Time.before (g.S.ShortAlarm.clock c.pass.new.self) c.args.goal ≡ true = cc in
     let set = set_anew (kind g c.aim.ensures.agrees) g.met.S.ShortAlarm.reaching c.stages.invariant c.pass.ensures rang short c.aim-in-Rang.ensures.value in
-    absurd (not_both set c.in-err-aim-2.was)
+    absurd (not_both set c.in_err-aim-2.was)
 
 -- nor is the first, since the goal is not before the clock
-pub returns-in-err-aim : goal.returns-in-err-aim
-returns-in-err-aim g c =
+pub returns-in_err-aim : goal.returns-in_err-aim
+returns-in_err-aim g c =
     let m = kind g c.aim.ensures.agrees in
     let set = (aim_accepted m g.S.ShortAlarm.reach _ c.args.goal c.requires.ahead _ c.aim.ensures.value).answered in
-    absurd (not_both set c.in-err-aim.was)
+    absurd (not_both set c.in_err-aim.was)
 
 pub returns : goal.returns
 returns g c =
     let m = kind g c.aim.ensures.agrees in
     let begun = (aim_accepted m g.S.ShortAlarm.reach _ c.args.goal c.requires.ahead _ c.aim.ensures.value).clocked in
-    let arrived = c.in-ok-pass.was ∙ ap Ok c.in-default.is in
+    let arrived = c.in_ok-pass.was ∙ ap Ok c.in_default.is in
     let ended = arrived_at_t m g.met.S.ShortAlarm.reaching c.stages.invariant c.pass.ensures _ (ap g.T.Measured.place begun) c.requires.forward arrived in
     record { value = ended.value; count = ended.count }

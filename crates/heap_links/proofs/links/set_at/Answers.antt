@@ -7,8 +7,8 @@ returns g c =
     let xs = c.args.slots.now in
     let i = c.args.place in
     let d = c.index-slots-place.result in
-    let y = c.set-link.new.slot in
-    let to = c.set-link.ensures in
+    let y = c.set_link.new.slot in
+    let to = c.set_link.ensures in
     record {
       ats = half_set g.K.Key.link xs i d c.requires (λ l. l.at) y c.args.slot (ap (λ l. l.at) to.link);
       places = half_kept g.K.Key.link xs i d c.requires (λ l. l.place) y (ap (λ l. l.place) to.link ∙ ap (λ l. l.place) c.link-link.ensures);

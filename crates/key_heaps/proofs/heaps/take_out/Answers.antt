@@ -17,11 +17,11 @@ returns-then-p-left g c =
     let link = g.K.Key.link in
     let other = g.K.Key.other in
     let n = c.args.left in
-    let p = c.place-of-p.result in
+    let p = c.place_of-p.result in
     let x = c.exchange.ensures in
     let lt = precedes g.T.Time.before g.K.Key.time in
     let ranks = precedes_ranks g.T.Time.before g.K.Key.time g.met.T.Time.ordered (timers ys) in
-    let is : slot_at link xs p ≡ c.args.slot = ap (slot_at link xs) c.place-of-p.ensures ∙ (c.requires.linked.1 c.args.slot c.requires.within).1 in
+    let is : slot_at link xs p ≡ c.args.slot = ap (slot_at link xs) c.place_of-p.ensures ∙ (c.requires.linked.1 c.args.slot c.requires.within).1 in
     record {
       marked = subst (λ s. Marked link other s false (n + 1) n xs zs) is
           (marked_left link other xs ys zs p n (omega (arith, (c.requires.linked.1 c.args.slot c.requires.within).0)) (omega (arith, (c.requires.linked.1 c.args.slot c.requires.within).0)) c.requires.linked x.kept x.linked x.moved (omega arith) c.mend.ensures.moved);
@@ -38,10 +38,10 @@ returns-else-p-left g c =
     let link = g.K.Key.link in
     let other = g.K.Key.other in
     let n = c.args.left in
-    let p = c.place-of-p.result in
+    let p = c.place_of-p.result in
     let x = c.exchange.ensures in
     let lt = precedes g.T.Time.before g.K.Key.time in
-    let is : slot_at link xs p ≡ c.args.slot = ap (slot_at link xs) c.place-of-p.ensures ∙ (c.requires.linked.1 c.args.slot c.requires.within).1 in
+    let is : slot_at link xs p ≡ c.args.slot = ap (slot_at link xs) c.place_of-p.ensures ∙ (c.requires.linked.1 c.args.slot c.requires.within).1 in
     record {
       marked = subst (λ s. Marked link other s false (n + 1) n xs ys) is
           (marked_left link other xs ys ys p n (omega (arith, (c.requires.linked.1 c.args.slot c.requires.within).0)) (omega (arith, (c.requires.linked.1 c.args.slot c.requires.within).0)) c.requires.linked x.kept x.linked x.moved (omega arith) (unmoved link other n ys x.linked));

@@ -13,18 +13,18 @@ returns-then-rises g c =
     let p = c.args.p in
     let n = c.args.count in
     let ranks = precedes_ranks g.T.Time.before g.K.Key.time g.met.T.Time.ordered (timers xs) in
-    let up = c.sift-up.ensures in
+    let up = c.sift_up.ensures in
     record {
-      moved = moved_wider g.K.Key.link g.K.Key.other _ n xs c.sift-up.new.slots (omega arith) up.moved;
+      moved = moved_wider g.K.Key.link g.K.Key.other _ n xs c.sift_up.new.slots (omega arith) up.moved;
       ordered = λ gap. up.ordered n (omega arith) gap (rising_under lt ranks a p n c.if-rises.ensures gap);
     }
 
 pub returns-else-rises : goal.returns-else-rises
 returns-else-rises g c =
     record {
-      moved = c.sift-down.ensures.moved;
-      ordered = λ gap. c.sift-down.ensures.ordered gap c.if-rises.ensures;
+      moved = c.sift_down.ensures.moved;
+      ordered = λ gap. c.sift_down.ensures.ordered gap c.if-rises.ensures;
     }
 
-pub sift-down-requires : goal.sift-down-requires
-sift-down-requires g c = c.requires
+pub sift_down-requires : goal.sift_down-requires
+sift_down-requires g c = c.requires

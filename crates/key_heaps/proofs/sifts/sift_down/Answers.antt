@@ -60,7 +60,7 @@ returns g c =
     record {
       moved = c.loop-child.invariant.1;
       ordered = down_ends (lt (timers c.args.slots.now)) (slot_at link c.args.slots.now) (slot_at link c.loop-child.slots)
-          c.args.from c.loop-child.p c.args.count c.in-default.ensures c.loop-child.invariant.2;
+          c.args.from c.loop-child.p c.args.count c.in_default.ensures c.loop-child.invariant.2;
     }
 
 pub precedes-requires : goal.precedes-requires

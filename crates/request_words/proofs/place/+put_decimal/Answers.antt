@@ -13,16 +13,16 @@ returns-then-number-lt10 t c =
     (sym (decimal_digit c.args.number c.if-number-lt10.true))
     (placed_one (48 + c.args.number) c.args.out.now c.args.at (omega (arith, decimal_nonempty c.args.number (omega arith), c.requires)))
 
-pub put-decimal-last-requires : goal.put-decimal-last-requires
-put-decimal-last-requires t c = (omega (arith, c.decreases), omega (arith, decimal_longer c.args.number (omega arith) (omega arith), c.requires))
+pub put_decimal-last-requires : goal.put_decimal-last-requires
+put_decimal-last-requires t c = (omega (arith, c.decreases), omega (arith, decimal_longer c.args.number (omega arith) (omega arith), c.requires))
 
 pub bounds-out-last : goal.bounds-out-last
-bounds-out-last t c = omega (arith, decimal_longer c.args.number (omega arith) (omega arith), c.requires, c.put-decimal-last.ensures.behind, c.put-decimal-last.auto.out)
+bounds-out-last t c = omega (arith, decimal_longer c.args.number (omega arith) (omega arith), c.requires, c.put_decimal-last.ensures.behind, c.put_decimal-last.auto.out)
 
 pub returns : goal.returns
 returns t c =
-    let last : ℕ = c.put-decimal-last.result in
-    let room : last < length c.put-decimal-last.new.out = omega (arith, decimal_longer c.args.number (omega arith) (omega arith), c.requires, c.put-decimal-last.ensures.behind, c.put-decimal-last.auto.out) in
-    subst (λ (ds : List ℕ). Placed ds c.args.out.now c.args.at (set c.put-decimal-last.new.out last (48 + c.args.number % 10)) (last + 1))
+    let last : ℕ = c.put_decimal-last.result in
+    let room : last < length c.put_decimal-last.new.out = omega (arith, decimal_longer c.args.number (omega arith) (omega arith), c.requires, c.put_decimal-last.ensures.behind, c.put_decimal-last.auto.out) in
+    subst (λ (ds : List ℕ). Placed ds c.args.out.now c.args.at (set c.put_decimal-last.new.out last (48 + c.args.number % 10)) (last + 1))
     (sym (decimal_step c.args.number c.if-number-lt10.false (omega arith)))
-    (placed_then _ _ _ _ _ _ _ _ c.put-decimal-last.auto.out c.put-decimal-last.ensures (placed_one (48 + c.args.number % 10) c.put-decimal-last.new.out last room))
+    (placed_then _ _ _ _ _ _ _ _ c.put_decimal-last.auto.out c.put_decimal-last.ensures (placed_one (48 + c.args.number % 10) c.put_decimal-last.new.out last room))

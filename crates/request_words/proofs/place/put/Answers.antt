@@ -9,5 +9,5 @@ returns c =
     let text : List ℕ = c.args.text.now in
     let end : ℕ = c.args.at + length text in
     subst (λ (t : List ℕ). Placed text c.args.out.now c.args.at (put_mid c.args.at (end - c.args.at) c.args.out.now t) end)
-    (sym c.copy-from-slice.ensures.after)
+    (sym c.copy_from_slice.ensures.after)
     (placed_part text c.args.out.now c.args.at end refl c.requires)

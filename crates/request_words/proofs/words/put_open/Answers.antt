@@ -6,7 +6,7 @@ pub returns : goal.returns
 returns c =
     record {
       placed =
-          placed_then _ _ _ _ _ _ _ _ c.put-byte-second.auto.out c.put-byte-second.ensures
-          (placed_then _ _ _ _ _ _ _ _ c.put-byte-third.auto.out c.put-byte-third.ensures c.put-time.ensures);
-      short = omega (arith, c.put-byte-second.ensures.behind, c.put-byte-third.ensures.behind, c.put-time.ensures.behind);
+          placed_then _ _ _ _ _ _ _ _ c.put_byte-second.auto.out c.put_byte-second.ensures
+          (placed_then _ _ _ _ _ _ _ _ c.put_byte-third.auto.out c.put_byte-third.ensures c.put_time.ensures);
+      short = omega (arith, c.put_byte-second.ensures.behind, c.put_byte-third.ensures.behind, c.put_time.ensures.behind);
     }

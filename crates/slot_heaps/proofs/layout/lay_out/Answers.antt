@@ -9,10 +9,10 @@ use Rattle.slot_heaps.proofs.layout.lay_out.Goals as goal
 pub returns : goal.returns
 returns g c =
     let xs = c.args.slots.now in
-    let ys = c.lay-out-heap.new.slots in
-    let zs = c.lay-out-heap-2.new.slots in
-    let first = c.lay-out-heap.ensures in
-    let second = c.lay-out-heap-2.ensures in
+    let ys = c.lay_out_heap.new.slots in
+    let zs = c.lay_out_heap-2.new.slots in
+    let first = c.lay_out_heap.ensures in
+    let second = c.lay_out_heap-2.ensures in
     let same = kept_length by_soft xs ys first.kept in
     let long = kept_length by_hard ys zs second.kept ∙ same in
     let hard = straight_same by_hard ys zs second.kept.others (length xs) first.straight in

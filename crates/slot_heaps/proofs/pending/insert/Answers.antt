@@ -11,9 +11,9 @@ push-requires g c =
     let xs = c.args.slots.now in
     let ys = c.fill.new.slots in
     let n = c.args.pending in
-    let s = c.free-slot-slot.result in
+    let s = c.free_slot-slot.result in
     let h = standing_filled n s c.args.timer xs ys c.requires.standing c.fill.ensures in
-    let f = free_filled n s c.args.timer xs ys c.requires.standing c.fill.ensures c.requires.room c.free-slot-slot.ensures in
+    let f = free_filled n s c.args.timer xs ys c.requires.standing c.fill.ensures c.requires.room c.free_slot-slot.ensures in
     record { linked = h.2; within = f.0; free = f.1 }
 
 pub push-requires-2 : goal.push-requires-2
@@ -22,9 +22,9 @@ push-requires-2 g c =
     let ys = c.fill.new.slots in
     let zs = c.push.new.slots in
     let n = c.args.pending in
-    let s = c.free-slot-slot.result in
+    let s = c.free_slot-slot.result in
     let h = standing_filled n s c.args.timer xs ys c.requires.standing c.fill.ensures in
-    let f = free_filled n s c.args.timer xs ys c.requires.standing c.fill.ensures c.requires.room c.free-slot-slot.ensures in
+    let f = free_filled n s c.args.timer xs ys c.requires.standing c.fill.ensures c.requires.room c.free_slot-slot.ensures in
     let k = c.push.ensures.marked.kept in
     let long = kept_length by_soft ys zs k in
     record {
@@ -40,7 +40,7 @@ returns g c =
     let zs = c.push.new.slots in
     let ws = c.push-2.new.slots in
     let n = c.args.pending in
-    let s = c.free-slot-slot.result in
+    let s = c.free_slot-slot.result in
     let t = c.args.timer in
     let before = g.T.Time.before in
     let filled = c.fill.ensures in
@@ -48,13 +48,13 @@ returns g c =
     let soft = c.push-2.ensures in
     record {
       standing = standing_then s true n (n + 1) ys zs ws hard.marked soft.marked (omega (arith, length_filled n s t xs ys c.requires.standing filled)) (standing_filled n s t xs ys c.requires.standing filled);
-      timers = timers_then s true n (n + 1) ys zs ws hard.marked soft.marked ∙ filled.timers ∙ ap (λ i. set (timers xs) i t) c.free-slot-slot.ensures;
+      timers = timers_then s true n (n + 1) ys zs ws hard.marked soft.marked ∙ filled.timers ∙ ap (λ i. set (timers xs) i t) c.free_slot-slot.ensures;
       slots = marks_then s true n (n + 1) ys zs ws hard.marked soft.marked
-          ∙ (λ k. set (pending_same by_hard xs ys filled.hard n k) (c.free-slot-slot.ensures k) true);
-      listed = listed_inserted n s t xs ys c.requires.standing filled c.requires.room c.free-slot-slot.ensures ws
+          ∙ (λ k. set (pending_same by_hard xs ys filled.hard n k) (c.free_slot-slot.ensures k) true);
+      listed = listed_inserted n s t xs ys c.requires.standing filled c.requires.room c.free_slot-slot.ensures ws
           (marks_then s true n (n + 1) ys zs ws hard.marked soft.marked) (timers_then s true n (n + 1) ys zs ws hard.marked soft.marked);
       ordered = λ b.
-          let f = both_heaped_filled n s t xs ys c.requires.standing filled c.requires.room c.free-slot-slot.ensures before b in (
+          let f = both_heaped_filled n s t xs ys c.requires.standing filled c.requires.room c.free_slot-slot.ensures before b in (
             heaped_same by_hard zs ws soft.marked.kept.others before (λ t. t.hard) (n + 1) soft.marked.kept.timers (hard.ordered f.0),
             soft.ordered (heaped_same by_soft ys zs hard.marked.kept.others before (λ t. t.soft) n hard.marked.kept.timers f.1),
           );

@@ -8,14 +8,14 @@ use Rattle.heap_links.proofs.Reading.{nth_column}
 use Rattle.slot_heaps.proofs.TwoHeaps.{linked_same, heaped_same, pending_both, length_then, timers_then, marks_then, standing_then}
 use Rattle.slot_heaps.proofs.pending.remove.Goals as goal
 
-pub take-out-requires-2 : goal.take-out-requires-2
-take-out-requires-2 g c =
+pub take_out-requires-2 : goal.take_out-requires-2
+take_out-requires-2 g c =
     let xs = c.args.slots.now in
-    let ys = c.take-out.new.slots in
+    let ys = c.take_out.new.slots in
     let n = c.args.left in
     let s = c.args.slot in
     let h = c.requires.standing in
-    let k = c.take-out.ensures.marked.kept in
+    let k = c.take_out.ensures.marked.kept in
     let long = kept_length by_soft xs ys k in
     record {
       linked = linked_same by_soft xs ys k.others long h.3;
@@ -28,14 +28,14 @@ take-out-requires-2 g c =
 pub returns : goal.returns
 returns g c =
     let xs = c.args.slots.now in
-    let ys = c.take-out.new.slots in
-    let zs = c.take-out-2.new.slots in
+    let ys = c.take_out.new.slots in
+    let zs = c.take_out-2.new.slots in
     let n = c.args.left in
     let s = c.args.slot in
     let before = g.T.Time.before in
     let h = c.requires.standing in
-    let hard = c.take-out.ensures in
-    let soft = c.take-out-2.ensures in
+    let hard = c.take_out.ensures in
+    let soft = c.take_out-2.ensures in
     let same = timers_then s false (n + 1) n xs ys zs hard.marked soft.marked in
     let read = ap (λ ts. slice_get ts s) (sym same) ∙ nth_column (λ x. x.timer) zs s c.index-slots-slot.result
     (omega (arith, length_then s false (n + 1) n xs ys zs hard.marked soft.marked, c.requires.within)) in
