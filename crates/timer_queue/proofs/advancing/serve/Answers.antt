@@ -48,8 +48,8 @@ returns-after-loop-t g c =
       served = λ r. let s = inv.4 r in serve_ends g.T.Time.before g.met.T.Time.ordered c.args.t (listed c.args.pending c.args.slots.now) c.args.log.now c.loop-t.wakes c.loop-t.log (listed c.loop-t.left c.loop-t.slots) _ _ _ _ s (c.loop-t-test.ensures s.clock);
     }
 
-pub returns-in-default : goal.returns-in-default
-returns-in-default g c =
+pub returns-in_default : goal.returns-in_default
+returns-in_default g c =
     let inv = c.loop-t.invariant in
     record {
       standing = inv.0;
@@ -58,7 +58,7 @@ returns-in-default g c =
       ordered = inv.3;
       served = λ r.
           let s = inv.4 r in
-          absurd (none_rings g.T.Time.before g.met.T.Time.ordered c.args.t (listed c.args.pending c.args.slots.now) c.args.log.now c.loop-t.wakes c.loop-t.log (listed c.loop-t.left c.loop-t.slots) _ _ _ _ s (c.loop-t-test.ensures s.clock) (listed_none c.loop-t.left c.loop-t.slots c.in-default.ensures));
+          absurd (none_rings g.T.Time.before g.met.T.Time.ordered c.args.t (listed c.args.pending c.args.slots.now) c.args.log.now c.loop-t.wakes c.loop-t.log (listed c.loop-t.left c.loop-t.slots) _ _ _ _ s (c.loop-t-test.ensures s.clock) (listed_none c.loop-t.left c.loop-t.slots c.in_default.ensures));
     }
 
 pub returns-then-rest-left : goal.returns-then-rest-left

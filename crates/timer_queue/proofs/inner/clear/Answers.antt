@@ -7,12 +7,12 @@ use Rattle.timer_queue.proofs.inner.clear.Goals as goal
 
 pub returns : goal.returns
 returns g c =
-    let n : length c.lay-out.new.slots ≡ c.args.inner.now.usable = search rules in
-    let f = fronted c.args.inner.now.usable c.args.inner.now.slots.now c.lay-out.new.slots (omega arith) n in
+    let n : length c.lay_out.new.slots ≡ c.args.inner.now.usable = search rules in
+    let f = fronted c.args.inner.now.usable c.args.inner.now.slots.now c.lay_out.new.slots (omega arith) n in
     record {
       pending = refl;
       spared = record { usable = refl; size = f.size; spare = f.back };
-      standing = subst (Standing 0) (sym f.front) c.lay-out.ensures.standing;
-      listed = ap (listed 0) f.front ∙ c.lay-out.ensures.listed;
-      ordered = subst (BothHeaped g.T.Time.before 0) (sym f.front) c.lay-out.ensures.ordered;
+      standing = subst (Standing 0) (sym f.front) c.lay_out.ensures.standing;
+      listed = ap (listed 0) f.front ∙ c.lay_out.ensures.listed;
+      ordered = subst (BothHeaped g.T.Time.before 0) (sym f.front) c.lay_out.ensures.ordered;
     }

@@ -24,7 +24,7 @@ loop-slot-preserved g c =
     let timer : c.in-Some.first ≡ c.remove-timer.result = (let a = top.0.timer in let b = c.remove-timer.ensures.value in cc) in
     let put : Inserted c.remove-timer.result (listed (c.loop-slot.left - 1) c.remove-timer.new.slots) (listed c.loop-slot.left c.loop-slot.slots) =
     subst (λ (n : ℕ). Inserted c.remove-timer.result (listed (c.loop-slot.left - 1) c.remove-timer.new.slots) (listed n c.loop-slot.slots)) back c.remove-timer.ensures.listed in
-    let log = c.note.ensures ∙ ap (set c.loop-slot.log c.loop-slot.next) c.entry-of.ensures in (
+    let log = c.note.ensures ∙ ap (set c.loop-slot.log c.loop-slot.next) c.entry_of.ensures in (
       c.remove-timer.ensures.standing,
       omega (arith, inv.1),
       omega (arith, inv.2),
@@ -54,10 +54,10 @@ returns-then-before g c =
           (first_unripe g.T.Time.before g.met.T.Time.ordered c.in-Some.first _ c.args.wake (top.2 (inv.4 h).1) (sym c.if-before.ensures));
     }
 
-pub returns-in-default : goal.returns-in-default
-returns-in-default g c =
+pub returns-in_default : goal.returns-in_default
+returns-in_default g c =
     let inv = c.loop-slot.invariant in
-    let none = listed_none c.loop-slot.left c.loop-slot.slots c.in-default.ensures in
+    let none = listed_none c.loop-slot.left c.loop-slot.slots c.in_default.ensures in
     record {
       standing = inv.0;
       fewer = inv.2;

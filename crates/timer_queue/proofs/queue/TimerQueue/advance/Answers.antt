@@ -22,25 +22,25 @@ use Rattle.timer_queue.proofs.Refused.{left_alone, spared_itself, advance_away, 
 use Rattle.queue_rules.proofs.Sorting.{sorted_rearranged}
 use Rattle.timer_queue.proofs.queue.TimerQueue.advance.Goals as goal
 
-pub returns-in-err-check-advance : goal.returns-in-err-check-advance
-returns-in-err-check-advance g c =
+pub returns-in_err-check_advance : goal.returns-in_err-check_advance
+returns-in_err-check_advance g c =
     let before = g.T.Time.before in
     let q : TimerQueue g.row.T.Denot = c.args.self.now in
     let t : g.row.T.Denot = c.args.t in
     let old : List (Firing g.row.T.Denot) = c.args.log.now in
     let s : State g.row.T.Denot = state_with g.A.Alarm.clock g.A.Alarm.due q c.args.alarm.now in
-    let f : QueueFault = c.in-err-check-advance.field-0.0 in
-    let p = err_from_is_err_and c.from-residual.result c.from-residual.ensures.1 in
-    let e : c.from-residual.result ≡ Err f = p.1 ∙ ap Err p.2 in
+    let f : QueueFault = c.in_err-check_advance.field-0.0 in
+    let p = err_from_is_err_and c.from_residual.result c.from_residual.ensures.1 in
+    let e : c.from_residual.result ≡ Err f = p.1 ∙ ap Err p.2 in
     record {
-      done = λ h. advance_away before g.A.Alarm.clock g.A.Alarm.due q c.args.alarm.now g.met.T.Time.ordered t (length old) old f c.from-residual.result e h
+      done = λ h. advance_away before g.A.Alarm.clock g.A.Alarm.due q c.args.alarm.now g.met.T.Time.ordered t (length old) old f c.from_residual.result e h
           (advance_turned before g.met.T.Time.ordered q.inner.usable (queue_timers q) s.clock s.due t (length old) f
-          (c.in-err-check-advance.ensures.answer (h.by_hard, h.by_soft)));
-      greedy = λ h. greedy_away before g.A.Alarm.clock g.A.Alarm.due q c.args.alarm.now g.met.T.Time.ordered t (length old) old f c.from-residual.result e;
+          (c.in_err-check_advance.ensures.answer (h.by_hard, h.by_soft)));
+      greedy = λ h. greedy_away before g.A.Alarm.clock g.A.Alarm.due q c.args.alarm.now g.met.T.Time.ordered t (length old) old f c.from_residual.result e;
       later = λ h. refl;
-      refused = left_alone q _ _ f c.from-residual.result e;
-      few = MatchResult-from_err c.from-residual.result _ (λ _. Unit {0}) c.from-residual.ensures.0 (λ _. tt);
-      unlogged = MatchResult-from_err c.from-residual.result (λ _. Unit {0}) (λ _. old ≡ old) c.from-residual.ensures.0 (λ _. refl);
+      refused = left_alone q _ _ f c.from_residual.result e;
+      few = MatchResult-from_err c.from_residual.result _ (λ _. Unit {0}) c.from_residual.ensures.0 (λ _. tt);
+      unlogged = MatchResult-from_err c.from_residual.result (λ _. Unit {0}) (λ _. old ≡ old) c.from_residual.ensures.0 (λ _. refl);
       spared = spared_itself q.inner;
     }
 
@@ -70,7 +70,7 @@ returns g c =
     let went : Sound before q → (advance_refusal before u xs (clock a) (due a) t (length old) ≡ None) × ServedAll before t xs ys n old new (clock a') (due a') =
     λ h.
     let heap : BothHeaped before p (queue_slots q) = (h.by_hard, h.by_soft) in
-    let free : advance_refusal before u xs (clock a) (due a) t (length old) ≡ None = sym (c.in-ok-check-advance.ensures.answer heap) in (
+    let free : advance_refusal before u xs (clock a) (due a) t (length old) ≡ None = sym (c.in_ok-check_advance.ensures.answer heap) in (
       free,
       c.run-wakes.ensures.served (record {
         heaped = heap;
@@ -97,7 +97,7 @@ returns g c =
           advance_greedy before o s s' t (length old) (Ok (n, m)) (take m new) (distinct_rearranged r h.distinct) (all_rearranged _ r h.proper) (out h);
       later = λ h. stayed before o u xs (clock a) (due a) t (length old) (went h).0 ys n m old new (clock a') (due a') h.distinct h.proper (went h).1 fired;
       refused = tt;
-      few = (omega (arith, c.run-wakes.ensures.fewer), omega (arith, c.run-wakes.ensures.fewer), omega (arith, c.in-ok-check-advance.ensures.room));
+      few = (omega (arith, c.run-wakes.ensures.fewer), omega (arith, c.run-wakes.ensures.fewer), omega (arith, c.in_ok-check_advance.ensures.room));
       unlogged = tt;
       spared = c.run-wakes.ensures.spared;
     }

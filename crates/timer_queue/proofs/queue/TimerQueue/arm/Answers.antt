@@ -21,25 +21,25 @@ use Rattle.timer_queue.proofs.Refused.{left_alone, spared_itself, turned_away}
 use Rattle.timer_queue.proofs.Typed.{typed, counted_still}
 use Rattle.timer_queue.proofs.queue.TimerQueue.arm.Goals as goal
 
-pub returns-in-err-check-arm : goal.returns-in-err-check-arm
-returns-in-err-check-arm g c =
+pub returns-in_err-check_arm : goal.returns-in_err-check_arm
+returns-in_err-check_arm g c =
     let before = g.T.Time.before in
     let q : TimerQueue g.row.T.Denot = c.args.self.now in
     let x : Timer g.row.T.Denot = timed c.args.number c.args.soft c.args.hard in
     let s : State g.row.T.Denot = state_with g.A.Alarm.clock g.A.Alarm.due q c.args.alarm.now in
-    let f : QueueFault = c.in-err-check-arm.field-0.0 in
-    let p = err_from_is_err_and c.from-residual.result c.from-residual.ensures.1 in
-    let e : c.from-residual.result ≡ Err f = p.1 ∙ ap Err p.2 in
+    let f : QueueFault = c.in_err-check_arm.field-0.0 in
+    let p = err_from_is_err_and c.from_residual.result c.from_residual.ensures.1 in
+    let e : c.from_residual.result ≡ Err f = p.1 ∙ ap Err p.2 in
     record {
-      done = λ h. turned_away before g.A.Alarm.clock g.A.Alarm.due q c.args.alarm.now (λ t. arming before t x) (λ r. armed (is_ok r) x) f c.from-residual.result
+      done = λ h. turned_away before g.A.Alarm.clock g.A.Alarm.due q c.args.alarm.now (λ t. arming before t x) (λ r. armed (is_ok r) x) f c.from_residual.result
           (arm_carries before g.met.T.Time.ordered s s x) h
-          (arm_turned before g.met.T.Time.ordered q.inner.usable (queue_timers q) s.clock s.due x f (c.in-err-check-arm.ensures.answer (h.by_hard, h.by_soft))) e;
-      refused = left_alone q _ _ f c.from-residual.result e;
+          (arm_turned before g.met.T.Time.ordered q.inner.usable (queue_timers q) s.clock s.due x f (c.in_err-check_arm.ensures.answer (h.by_hard, h.by_soft))) e;
+      refused = left_alone q _ _ f c.from_residual.result e;
       spared = spared_itself q.inner;
     }
 
-pub invariant-of-self : goal.invariant-of-self
-invariant-of-self g c =
+pub invariant_of-self : goal.invariant_of-self
+invariant_of-self g c =
     let i : Inner g.row.T.Denot = c.args.self.now.inner in
     let j : Inner g.row.T.Denot = c.enter.new.inner in
     typed j (counted_still i j c.enter.ensures.spared c.args.self.now.counted) c.enter.ensures.standing
@@ -61,11 +61,11 @@ returns g c =
     record {
       done = λ h.
           let heap : BothHeaped before q.inner.pending (queue_slots q) = (h.by_hard, h.by_soft) in
-          let free : arm_refusal before u xs (clock a) (due a) x ≡ None = sym (c.in-ok-check-arm.ensures.answer heap) in
-          let ahead = c.check-arm.ensures.ahead in
+          let free : arm_refusal before u xs (clock a) (due a) x ≡ None = sym (c.in_ok-check_arm.ensures.answer heap) in
+          let ahead = c.check_arm.ensures.ahead in
           let list = c.enter.ensures.listed in
           let ordered = c.enter.ensures.ordered heap in
-          let least : c.least-in.result ≡ least_hard before ys = c.least-in.ensures ordered in
+          let least : c.least_in.result ≡ least_hard before ys = c.least_in.ensures ordered in
           let not_past = entered_ahead before o u xs ys (clock a) (due a) x free ahead list h.distinct h.proper in
           let at_least : due c.aim.new.alarm ≡ least_hard before ys = c.aim.ensures.due (subst (NotPast before (clock a)) (sym least) not_past) ∙ least in
           let e = entered before o u xs ys (clock a) (due a) x free ahead list h.distinct h.proper j.usable (clock c.aim.new.alarm) (due c.aim.new.alarm)

@@ -21,25 +21,25 @@ use Rattle.timer_queue.proofs.Refused.{left_alone, spared_itself, turned_away}
 use Rattle.timer_queue.proofs.Typed.{typed, counted_still}
 use Rattle.timer_queue.proofs.queue.TimerQueue.cancel.Goals as goal
 
-pub returns-in-err-slot : goal.returns-in-err-slot
-returns-in-err-slot g c =
+pub returns-in_err-slot : goal.returns-in_err-slot
+returns-in_err-slot g c =
     let before = g.T.Time.before in
     let q : TimerQueue g.row.T.Denot = c.args.self.now in
     let n : ℕ = c.args.number in
     let s : State g.row.T.Denot = state_with g.A.Alarm.clock g.A.Alarm.due q c.args.alarm.now in
-    let f : QueueFault = c.in-err-slot.field-0.0 in
-    let p = err_from_is_err_and c.from-residual.result c.from-residual.ensures.1 in
-    let e : c.from-residual.result ≡ Err f = p.1 ∙ ap Err p.2 in
+    let f : QueueFault = c.in_err-slot.field-0.0 in
+    let p = err_from_is_err_and c.from_residual.result c.from_residual.ensures.1 in
+    let e : c.from_residual.result ≡ Err f = p.1 ∙ ap Err p.2 in
     record {
-      done = λ h. turned_away before g.A.Alarm.clock g.A.Alarm.due q c.args.alarm.now (λ t. cancelling before t n) (λ r. cancelled (is_ok r) n) f c.from-residual.result
+      done = λ h. turned_away before g.A.Alarm.clock g.A.Alarm.due q c.args.alarm.now (λ t. cancelling before t n) (λ r. cancelled (is_ok r) n) f c.from_residual.result
           (cancel_carries before g.met.T.Time.ordered s s n) h
-          (cancel_turned before g.met.T.Time.ordered q.inner.usable (queue_timers q) s.clock s.due n f (c.in-err-slot.ensures.answer (h.by_hard, h.by_soft))) e;
-      refused = left_alone q _ _ f c.from-residual.result e;
+          (cancel_turned before g.met.T.Time.ordered q.inner.usable (queue_timers q) s.clock s.due n f (c.in_err-slot.ensures.answer (h.by_hard, h.by_soft))) e;
+      refused = left_alone q _ _ f c.from_residual.result e;
       spared = spared_itself q.inner;
     }
 
-pub invariant-of-self : goal.invariant-of-self
-invariant-of-self g c =
+pub invariant_of-self : goal.invariant_of-self
+invariant_of-self g c =
     let i : Inner g.row.T.Denot = c.args.self.now.inner in
     let j : Inner g.row.T.Denot = c.leave.new.inner in
     let n = inserted_length _ (held_timers j) (held_timers i) c.leave.ensures.listed in
@@ -64,16 +64,16 @@ returns g c =
     record {
       done = λ h.
           let heap : BothHeaped before q.inner.pending (queue_slots q) = (h.by_hard, h.by_soft) in
-          let found : cancel_refusal before u xs (clock a) (due a) n ≡ None = sym (c.in-ok-slot.ensures.answer heap) in
-          let ahead = c.check-cancel.ensures.ahead in
+          let found : cancel_refusal before u xs (clock a) (due a) n ≡ None = sym (c.in_ok-slot.ensures.answer heap) in
+          let ahead = c.check_cancel.ensures.ahead in
           let list = c.leave.ensures.listed in
-          let hit = c.in-ok-slot.ensures.slot in
+          let hit = c.in_ok-slot.ensures.slot in
           let at = hit.1.timer in
           let value = c.leave.ensures.value in
           let name = hit.2 in
           let named : x.number ≡ n = cc in
           let ordered = c.leave.ensures.ordered heap in
-          let least : c.least-in.result ≡ least_hard before ys = c.least-in.ensures ordered in
+          let least : c.least_in.result ≡ least_hard before ys = c.least_in.ensures ordered in
           let not_past = left_ahead before o u xs ys (clock a) (due a) n x found ahead list named h.distinct h.proper in
           let at_least : due a' ≡ least_hard before ys = c.aim.ensures.due (subst (NotPast before (clock a)) (sym least) not_past) ∙ least in
           let e = left before o u xs ys (clock a) (due a) n x found ahead list named h.distinct h.proper j.usable (clock a') (due a')
