@@ -1,5 +1,6 @@
 // A table of calls, with what each is to answer and leave, played on a device.
 use alarms::{Alarm, AlarmFault, Passage, ShortAlarm};
+use std::process::Abort;
 use std::test::Fail;
 use times::Plain;
 
@@ -10,7 +11,7 @@ pub enum Call {
     Pass(u64),
 }
 
-#[derive(Clone, Copy, PartialEq, Debug)]
+#[derive(Clone, Copy, PartialEq, Eq, Debug)]
 pub enum Answer {
     Done,
     Came(Passage),
@@ -47,7 +48,7 @@ fn plain<T: Plain>(due: Option<T>) -> Option<u64> {
 
 // The two traits share their calls, and no supertrait.
 macro_rules! play_rows {
-    ($time:ty, $alarm:ident, $rows:ident) => {{
+    ($rt:ident, $time:ty, $alarm:ident, $rows:ident) => {{
         for row in $rows {
             let (call, answer, clock, due) = *row;
             let got = match call {
@@ -58,21 +59,26 @@ macro_rules! play_rows {
                     Answer::Done
                 }
             };
-            check_eq(got, answer)?;
-            check_eq($alarm.clock().to_plain(), clock)?;
-            check_eq(plain($alarm.due()), due)?;
+            assert_eq!($rt; got, answer);
+            assert_eq!($rt; $alarm.clock().to_plain(), clock);
+            assert_eq!($rt; plain($alarm.due()), due);
         }
         Ok(())
     }};
 }
 
-pub(crate) fn play<T: Plain, A: Alarm<T>>(alarm: &mut A, rows: &[Row]) -> Result<(), Fail> {
-    play_rows!(T, alarm, rows)
+pub(crate) fn play<T: Plain, A: Alarm<T>>(
+    rt: &impl Abort,
+    alarm: &mut A,
+    rows: &[Row],
+) -> Result<(), Fail> {
+    play_rows!(rt, T, alarm, rows)
 }
 
 pub(crate) fn play_short<T: Plain, S: ShortAlarm<T>>(
+    rt: &impl Abort,
     alarm: &mut S,
     rows: &[Row],
 ) -> Result<(), Fail> {
-    play_rows!(T, alarm, rows)
+    play_rows!(rt, T, alarm, rows)
 }

@@ -5,43 +5,6 @@ use frames::write::write;
 use std::process::Abort;
 use std::test::Fail;
 
-// Whether two requests are of one kind and have the same values.
-fn same(a: Request, b: Request) -> bool {
-    match (a, b) {
-        (
-            Request::Open {
-                time_kind,
-                device,
-                start,
-            },
-            Request::Open {
-                time_kind: k,
-                device: d,
-                start: s,
-            },
-        ) => { time_kind == k && device == d && start == s }
-        (
-            Request::Arm { number, soft, hard },
-            Request::Arm {
-                number: n,
-                soft: s,
-                hard: h,
-            },
-        ) => { number == n && soft == s && hard == h }
-        (Request::Cancel { number }, Request::Cancel { number: n }) => number == n,
-        (Request::Advance { to }, Request::Advance { to: t }) => to == t,
-        (Request::Close, Request::Close) => true,
-        (
-            Request::ArmByPurpose { number, purpose },
-            Request::ArmByPurpose {
-                number: n,
-                purpose: p,
-            },
-        ) => { number == n && purpose == p }
-        _ => false,
-    }
-}
-
 fn back(rt: &impl Abort, request: Request) -> Result<(), Fail> {
     let mut buffer = [0; 44];
     match write(&request, &mut buffer) {
@@ -50,7 +13,7 @@ fn back(rt: &impl Abort, request: Request) -> Result<(), Fail> {
             let line = &buffer[0..n];
             match read(line) {
                 Ok(again) => {
-                    assert!(rt; same(again, request));
+                    assert_eq!(rt; again, request);
                     Ok(())
                 },
                 Err(_) => Err(Fail::new("a written line is refused")),

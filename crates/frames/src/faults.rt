@@ -4,7 +4,7 @@ ghost use Rattle.frames.specs.declared.faults.ReadFault.TheVariants.{Line, Frame
 ghost use Rattle.frames.specs.Numbers.{line_number, frame_number, read_number, write_number};
 
 // The line does not spell a checked frame.
-#[derive(Clone, Copy)]
+#[derive(Clone, Copy, PartialEq, Eq, Debug)]
 pub enum LineFault {
     TooLong,
     BadCount,
@@ -13,21 +13,21 @@ pub enum LineFault {
 }
 
 // The frame is checked, and is none of the six kinds.
-#[derive(Clone, Copy)]
+#[derive(Clone, Copy, PartialEq, Eq, Debug)]
 pub enum FrameFault {
     UnknownKind,
     WrongLength,
 }
 
 // Why a line does not read as a request: the line's fault or the frame's, unaltered.
-#[derive(Clone, Copy)]
+#[derive(Clone, Copy, PartialEq, Eq, Debug)]
 pub enum ReadFault {
     Line(LineFault),
     Frame(FrameFault),
 }
 
 // Why a frame is not written.
-#[derive(Clone, Copy)]
+#[derive(Clone, Copy, PartialEq, Eq, Debug)]
 pub enum WriteFault {
     ShortBuffer,
 }

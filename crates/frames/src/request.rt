@@ -1,7 +1,7 @@
 // What a request frame asks for. Values are kept as they stand: which times, devices and purposes
 // exist is judged by whoever carries the request out.
 
-#[derive(Clone, Copy)]
+#[derive(Clone, Copy, PartialEq, Eq, Debug)]
 pub enum Request {
     Open {
         time_kind: u8,

@@ -4,9 +4,9 @@ ghost use Rattle.std.specs.Prelude.{◌≡◌, ◌+◌, ◌≤◌, OnOk};
 
 use frames::read::read;
 use lines::splitter::LineSplitter;
+use request_words::buffers::put_line;
 use request_words::place::LONGEST;
 use request_words::tally::Tally;
-use request_words::words::put_line;
 use std::io;
 use std::io::{Read, Stdout, Write};
 

@@ -1,10 +1,10 @@
 -- Bytes put behind bytes are the two put as one.
-use Rattle.std.proofs.Common.{◌≡◌, ℕ, ◌+◌, ◌-◌, ◌/◌, ◌%◌, ◌^◌, ◌<◌, ◌≤◌, List, [], ◌∷◌, ◌++◌, length, take, drop, set, decimal, sym, refl, ap, ◌∙◌, add-one, arith, lit<}
+use Rattle.std.proofs.Common.{◌≡◌, ℕ, ◌+◌, ◌-◌, ◌/◌, ◌%◌, ◌^◌, ◌<◌, ◌≤◌, List, [], ◌∷◌, ◌++◌, length, take, drop, set, decimal, sym, refl, ap, ◌∙◌, subst, add-one, arith, lit<}
 use borrow.Rule.Slice.PartMut.{put_mid}
 use lib.Seq.{paste}
 use Rattle.std.proofs.lemmas.Fmt.{decimal_step, length-decimal-le}
 use Rattle.std.proofs.lemmas.List.Edits.{paste_all, paste-paste}
-use Rattle.std.proofs.lemmas.List.{length-append, length_push, set_split}
+use Rattle.std.proofs.lemmas.List.{append_assoc, length-append, length_push, set_split}
 use Rattle.std.proofs.lemmas.Slice.{put_mid-paste}
 use Rattle.request_words.specs.Placing.{placed, Placed}
 
@@ -27,6 +27,11 @@ placed_then xs ys old mid new at e f n p q =
           ∙ ap (paste old at (xs ++ ys)) (sym l)
           ∙ sym (placed_paste (xs ++ ys) old at);
     }
+
+-- a label and its value, and then more
+pub labelled_then : (label value ys old mid new : List ℕ) (at e f : ℕ) → length mid ≡ length old → Placed (label ++ value) old at mid e → Placed ys mid e new f → Placed (label ++ (value ++ ys)) old at new f
+labelled_then label value ys old mid new at e f n p q =
+    subst (λ (xs : List ℕ). Placed xs old at new f) (append_assoc label value ys) (placed_then (label ++ value) ys old mid new at e f n p q)
 
 -- one byte
 pub placed_one : (b : ℕ) (old : List ℕ) (at : ℕ) → at < length old → Placed (b ∷ []) old at (set old at b) (at + 1)

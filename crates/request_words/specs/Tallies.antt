@@ -14,6 +14,9 @@ abbrev pub counted : Tally → Result Request ReadFault → Tally
 counted t (Ok request) = record { lines = next t.lines; frames = next t.frames; refused = t.refused }
 counted t (Err fault) = record { lines = next t.lines; frames = t.frames; refused = next t.refused }
 
+abbrev pub tally_words : Tally → List ℕ
+tally_words t = decimal t.lines ++ (codes " lines, " ++ (decimal t.frames ++ (codes " frames, " ++ (decimal t.refused ++ codes " refused"))))
+
 -- the words of the counts, and the line feed
 abbrev pub summary : Tally → List ℕ
 summary t = decimal t.lines ++ (numbered " lines, " t.frames ++ (numbered " frames, " t.refused ++ (codes " refused" ++ 10 ∷ [])))

@@ -1,14 +1,15 @@
 // How many lines, frames and refusals there were, and the summary that says so.
-ghost use Rattle.std.specs.Prelude.{◌≡◌, ◌+◌, ◌≤◌, length};
+ghost use Rattle.std.specs.Prelude.{◌≡◌, ◌+◌, ◌≤◌, ◌++◌, length, Some};
 ghost use Rattle.request_words.specs.Placing.{Placed, PlacedIn};
-ghost use Rattle.request_words.specs.Tallies.{counted, summary};
+ghost use Rattle.request_words.specs.Tallies.{counted, summary, tally_words};
 
 use crate::place::{LONGEST, put, put_decimal, put_number};
 use frames::faults::ReadFault;
 use frames::request::Request;
+use std::fmt;
 
 // Counts stop at the largest number, which no file reaches.
-#[derive(Clone, Copy)]
+#[derive(Clone, Copy, PartialEq, Eq, Debug)]
 pub struct Tally {
     pub lines: u64,
     pub frames: u64,
@@ -56,5 +57,16 @@ impl Tally {
             return None;
         }
         Some(put_counts(out, at, self.lines, self.frames, self.refused))
+    }
+}
+
+impl fmt::Display for Tally {
+    ghost output = { λ t. Some (tally_words t) };
+
+    fn fmt<W: fmt::Write>(&self, f: &mut fmt::Formatter<W>) -> fmt::Result {
+        let lines = self.lines;
+        let frames = self.frames;
+        let refused = self.refused;
+        write!(f, "{lines} lines, {frames} frames, {refused} refused")
     }
 }

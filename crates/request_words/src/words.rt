@@ -1,87 +1,71 @@
 // One line of a request file in words.
-ghost use Rattle.std.specs.Prelude.{◌≡◌, ◌+◌, ◌≤◌, ◌++◌, length};
-ghost use Rattle.frames.specs.declared.request.Request.TheVariants.{Open, Arm, ArmByPurpose};
-ghost use Rattle.request_words.specs.Placing.{Placed, PlacedIn};
-ghost use Rattle.request_words.specs.Words.{request_words, answer_words, full_line};
+ghost use Rattle.std.specs.Prelude.{◌≡◌, ◌++◌, Some};
+ghost use Rattle.request_words.specs.Words.{request_words, answer_words, line_words};
 
-use crate::place::{LONGEST, put, put_byte, put_decimal, put_number, put_time};
+use crate::hex::{HexByte, HexTime};
 use frames::faults::ReadFault;
 use frames::request::Request;
+use std::fmt;
 
-fn put_open(out: &mut [u8], at: usize, time_kind: u8, device: u8, start: u64) -> usize
-    requires { at + 65 ≤ length out.old }
-    ensures placed { Placed (request_words (Open time_kind device start)) out.old at out.new result }
-    ensures short { result ≤ at + 65 }
-{
-    let second = put_byte(out, at, b"open time-kind=", time_kind);
-    let third = put_byte(out, second, b" device=", device);
-    put_time(out, third, b" start=", start)
-}
+// A request in words.
+#[derive(Clone, Copy)]
+pub struct RequestWords(pub Request);
 
-fn put_arm(out: &mut [u8], at: usize, number: u32, soft: u64, hard: u64) -> usize
-    requires { at + 65 ≤ length out.old }
-    ensures placed { Placed (request_words (Arm number soft hard)) out.old at out.new result }
-    ensures short { result ≤ at + 65 }
-{
-    let second = put_number(out, at, b"arm number=", number as u64);
-    let third = put_time(out, second, b" soft=", soft);
-    put_time(out, third, b" hard=", hard)
-}
+impl fmt::Display for RequestWords {
+    ghost output = { λ x. Some (request_words x.0) };
 
-fn put_purpose(out: &mut [u8], at: usize, number: u32, purpose: u8) -> usize
-    requires { at + 65 ≤ length out.old }
-    ensures placed { Placed (request_words (ArmByPurpose number purpose)) out.old at out.new result }
-    ensures short { result ≤ at + 65 }
-{
-    let second = put_number(out, at, b"arm-by-purpose number=", number as u64);
-    put_byte(out, second, b" purpose=", purpose)
-}
-
-fn put_request(out: &mut [u8], at: usize, request: &Request) -> usize
-    requires { at + 65 ≤ length out.old }
-    ensures placed { Placed (request_words request.now) out.old at out.new result }
-    ensures short { result ≤ at + 65 }
-{
-    match *request {
-        Request::Open {
-            time_kind,
-            device,
-            start,
-        } => put_open(out, at, time_kind, device, start),
-        Request::Arm { number, soft, hard } => put_arm(out, at, number, soft, hard),
-        Request::Cancel { number } => put_number(out, at, b"cancel number=", number as u64),
-        Request::Advance { to } => put_time(out, at, b"advance to=", to),
-        Request::Close => put(out, at, b"close"),
-        Request::ArmByPurpose { number, purpose } => put_purpose(out, at, number, purpose),
+    fn fmt<W: fmt::Write>(&self, f: &mut fmt::Formatter<W>) -> fmt::Result {
+        match self.0 {
+            Request::Open {
+                time_kind,
+                device,
+                start,
+            } => {
+                write!(
+                    f,
+                    "open time-kind={} device={} start={}",
+                    HexByte(time_kind),
+                    HexByte(device),
+                    HexTime(start)
+                )
+            }
+            Request::Arm { number, soft, hard } => {
+                write!(
+                    f,
+                    "arm number={number} soft={} hard={}",
+                    HexTime(soft),
+                    HexTime(hard)
+                )
+            }
+            Request::Cancel { number } => write!(f, "cancel number={number}"),
+            Request::Advance { to } => write!(f, "advance to={}", HexTime(to)),
+            Request::Close => write!(f, "close"),
+            Request::ArmByPurpose { number, purpose } => {
+                write!(
+                    f,
+                    "arm-by-purpose number={number} purpose={}",
+                    HexByte(purpose)
+                )
+            }
+        }
     }
 }
 
-fn put_answer(out: &mut [u8], at: usize, answer: &Result<Request, ReadFault>) -> usize
-    requires { at + 65 ≤ length out.old }
-    ensures placed { Placed (answer_words answer.now) out.old at out.new result }
-    ensures short { result ≤ at + 65 }
-{
-    match answer {
-        Ok(request) => put_request(out, at, request),
-        Err(fault) => put_byte(out, at, b"refused ", fault.number()),
-    }
+// A line's number, and what the line asks for or the number it is refused by.
+#[derive(Clone, Copy)]
+pub struct LineWords {
+    pub number: u64,
+    pub answer: Result<Request, ReadFault>,
 }
 
-// Puts a line's words and a line feed at a place of a buffer, and answers the place behind them; or
-// none, where there is no room for the longest line.
-pub fn put_line(
-    out: &mut [u8],
-    at: usize,
-    number: u64,
-    answer: &Result<Request, ReadFault>,
-) -> Option<usize>
-    ensures { PlacedIn 88 (full_line number answer.now) out.old at out.new result }
-{
-    if out.len() < LONGEST || out.len() - LONGEST < at {
-        return None;
+impl fmt::Display for LineWords {
+    ghost output = { λ x. Some (line_words x.number x.answer) };
+
+    fn fmt<W: fmt::Write>(&self, f: &mut fmt::Formatter<W>) -> fmt::Result {
+        let number = self.number;
+        match self.answer {
+            Ok(request) => write!(f, "{number}: {}", RequestWords(request)),
+            Err(fault) => write!(f, "{number}: refused {}", HexByte(fault.number())),
+        }
     }
-    let colon = put_decimal(out, at, number);
-    let words = put(out, colon, b": ");
-    let feed = put_answer(out, words, answer);
-    Some(put(out, feed, b"\n"))
 }

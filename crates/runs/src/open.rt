@@ -52,14 +52,21 @@ impl<T: Plain> OpenRun<T> {
         read_step(request, clock)
     }
 
+    // The closed run, or this one back, as it was, with the refusal; `pending` timers are left.
+    pub(crate) fn close_with(self, pending: u16) -> Result<ClosedRun, (OpenRun<T>, RunFault)>
+        ensures { Closes self pending result }
+    {
+        if self.closing {
+            Ok(ClosedRun::new(self.counts, pending))
+        } else {
+            Err((self, RunFault::NotAccepted))
+        }
+    }
+
     // The closed run, if a close frame was accepted, or this one back, as it was, with the refusal. It keeps how many timers are pending.
     pub fn close(self, queue: &TimerQueue<'_, T>) -> Result<ClosedRun, (OpenRun<T>, RunFault)>
         ensures { Closes self (length (queue_timers queue.now)) result }
     {
-        if self.closing {
-            Ok(ClosedRun::new(self.counts, queue.pending()))
-        } else {
-            Err((self, RunFault::NotAccepted))
-        }
+        self.close_with(queue.pending())
     }
 }

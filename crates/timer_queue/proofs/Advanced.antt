@@ -8,7 +8,7 @@ use Rattle.queue_rules.specs.declared.firing.Firing.{Firing}
 use Rattle.queue_rules.specs.Calls.{State, advancing}
 use Rattle.timer_queue.specs.Doing.{gives}
 use Rattle.timer_queue.specs.Logs.{logged_at}
-use Rattle.timer_queue.specs.Services.{ServedAll}
+use Rattle.timer_queue.specs.Services.{CountedAll, ServedAll}
 use Rattle.queue_rules.specs.Timers.{Distinct, least_hard}
 use Rattle.timer_queue.specs.Views.{view, advance_refusal}
 use Rattle.queue_rules.specs.WakeUps.{walk}
@@ -28,12 +28,12 @@ module _ {A : Type 0} (before : A → A → Bool) (o : StrictOrder before) (u : 
   not_back = (given_none (before t c) AdvancePassed _ (kept_due before o xs d _ open_way).1).0
 
   module _ (ys : List (Timer A)) (n m : ℕ) (old new : List (Firing A)) (c' : A) (d' : Option A) (distinct : Distinct xs) (proper : Proper before o xs)
-      (served : ServedAll before t xs ys n old new c' d') (fired : length xs ≡ length ys + m) where
+      (served : ServedAll before t xs ys n old new c' d') (counted : CountedAll before t xs ys) (fired : length xs ≡ length ys + m) where
     abbrev entries : List (Firing A)
     entries = (walk before t xs).entries
 
     pub as_many : length entries ≡ m
-    as_many = omega (arith, served.count)
+    as_many = omega (arith, counted)
 
     -- the log is these entries, and then what was there
     log_is : new ≡ entries ++ drop (length entries) old

@@ -12,7 +12,7 @@ use Rattle.queue_rules.specs.declared.firing.Firing.{Firing}
 use Rattle.timer_queue.specs.Firings.{fired, Fired}
 use Rattle.queue_rules.specs.Lists.{Rearranged, sorted}
 use Rattle.timer_queue.specs.Logs.{logged_at}
-use Rattle.timer_queue.specs.Services.{ServedAll}
+use Rattle.timer_queue.specs.Services.{ServedAll, CountedAll}
 use Rattle.queue_rules.specs.Timers.{Distinct, least_hard, by_soft}
 use Rattle.queue_rules.specs.WakeUps.{entry, ripe, spared, bearer, wake_up}
 use Rattle.queue_rules.proofs.Elements.{pairwise_kept, any_with, kept_shorter, all_both}
@@ -114,12 +114,17 @@ module _ {A : Type 0} (before : A → A → Bool) (o : StrictOrder before) (t : 
         wakes = f.wakes;
         log = s.log ∙ ap (logged_at 0 old) (sym f.entries);
         rest = f.rest;
-        count = ap (λ l. length ys + length l) f.entries ∙ s.count;
         clock = k.clock;
         due = k.left ∙ s.due;
         distinct = s.distinct;
         proper = s.proper;
       }
+
+  pub serve_counts : (n : ℕ) (new : List (Firing A)) (ys : List (Timer A)) (c : A) (d : Option A) (c' : A) (d' : Option A) → Serving n new ys c d → Come before d t c' d' →
+      CountedAll before t xs ys
+  serve_counts n new ys c d c' d' s k =
+      let f = progress_ends before o t xs n s.entries ys s.progress s.proper (subst (Late before o t) s.due k.late) in
+      ap (λ l. length ys + length l) f.entries ∙ s.count
 
   -- with nothing pending it does not ring
   pub none_rings : (n : ℕ) (new : List (Firing A)) (ys : List (Timer A)) (c : A) (d : Option A) (c' : A) (d' : Option A) → Serving n new ys c d → Rung before d t c' d' → ys ≡ [] → ⊥

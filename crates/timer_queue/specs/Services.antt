@@ -16,11 +16,14 @@ pub record ServedAll {A : Type 0} (before : A → A → Bool) (t : A) (xs ys : L
   pub wakes : length (walk before t xs).wakes ≡ n
   pub log : new ≡ logged_at 0 old (walk before t xs).entries
   pub rest : Rearranged (walk before t xs).pending ys
-  pub count : length ys + length (walk before t xs).entries ≡ length xs
   pub clock : c ≡ t
   pub due : d ≡ least_hard before ys
   pub distinct : Distinct ys
   pub proper : All (λ x. before x.hard x.soft ≡ false) ys
+
+-- each of the timers xs was logged or is left
+abbrev pub CountedAll : {A : Type 0} → (A → A → Bool) → A → List (Timer A) → List (Timer A) → Type 0
+CountedAll before t xs ys = length ys + length (walk before t xs).entries ≡ length xs
 
 -- n timers are pending in sound slots, the alarm is due as it should be, and t is not before its clock
 pub record Ready {A : Type 0} (before : A → A → Bool) (n : ℕ) (ss : List (Slot A)) (c : A) (d : Option A) (t : A) : Type 0 where

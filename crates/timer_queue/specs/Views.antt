@@ -24,7 +24,7 @@ moved before xs d o = given (not (same_due before d (least_hard before xs))) Ala
 module _ {A : Type 0} (before : A → A → Bool) (u : ℕ) (xs : List (Timer A)) (c : A) (d : Option A) where
   abbrev pub arm_refusal : Timer A → Option QueueFault
   arm_refusal x =
-      moved before xs d
+      given (not (same_due before d (least_hard before xs))) AlarmMoved
       (given (before x.hard x.soft) HardBeforeSoft
       (given (before x.soft c) SoftPassed
       (given (passes (numbered x.number) xs) NumberPending
@@ -32,11 +32,11 @@ module _ {A : Type 0} (before : A → A → Bool) (u : ℕ) (xs : List (Timer A)
 
   abbrev pub cancel_refusal : ℕ → Option QueueFault
   cancel_refusal n =
-      moved before xs d
+      given (not (same_due before d (least_hard before xs))) AlarmMoved
       (given (not (passes (numbered n) xs)) NotPending None)
 
   abbrev pub advance_refusal : A → ℕ → Option QueueFault
   advance_refusal t room =
-      moved before xs d
+      given (not (same_due before d (least_hard before xs))) AlarmMoved
       (given (before t c) AdvancePassed
       (given (nat_lt room (length xs)) LogShort None))

@@ -2,7 +2,7 @@
 ghost use Rattle.std.specs.Prelude.{◌≡◌, ◌+◌, ◌≤◌, length};
 ghost use Rattle.slot_heaps.specs.Pending.{listed, Standing};
 ghost use Rattle.key_heaps.specs.Sifts.{BothHeaped};
-ghost use Rattle.timer_queue.specs.Services.{Ready, ServedAll};
+ghost use Rattle.timer_queue.specs.Services.{CountedAll, Ready, ServedAll};
 
 use crate::aiming::{aim, rings};
 use crate::serving::{fire, least};
@@ -34,6 +34,7 @@ pub(crate) fn serve<T: Time, A: Alarm<T>>(
     ensures held { length (listed result.left slots.new) + pending ≡ length (listed pending slots.old) + result.left }
     ensures ordered { BothHeaped T.Time.before pending slots.old → BothHeaped T.Time.before result.left slots.new }
     ensures served { Ready T.Time.before pending slots.old (A.Alarm.clock alarm.old) (A.Alarm.due alarm.old) t → ServedAll T.Time.before t (listed pending slots.old) (listed result.left slots.new) result.wakes log.old log.new (A.Alarm.clock alarm.new) (A.Alarm.due alarm.new) }
+    ensures counted { Ready T.Time.before pending slots.old (A.Alarm.clock alarm.old) (A.Alarm.due alarm.old) t → CountedAll T.Time.before t (listed pending slots.old) (listed result.left slots.new) }
 {
     let mut left = pending;
     let mut wakes = 0;

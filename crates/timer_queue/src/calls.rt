@@ -93,7 +93,8 @@ impl<'a, T: Time> TimerQueue<'a, T> {
         ensures spared { Spared self.old.inner self.new.inner }
     {
         let slot = check_cancel(&self.inner, alarm, number)?;
-        leave(&mut self.inner, slot);
+        let left = self.inner.pending - 1;
+        leave(&mut self.inner, slot, left);
         aim(alarm, least_in(&self.inner));
         Ok(())
     }

@@ -28,8 +28,11 @@ fn starts_at(accepted: Option<Opening>, kind: TimeKind, clock: u64) -> bool
 }
 
 impl WaitingRun {
-    // An open run at this clock, or this one back.
-    fn open_at<T: NamedTime>(self, clock: T) -> Result<OpenRun<T>, (WaitingRun, RunFault)>
+    // The open run, or this one back, as it was, with the refusal.
+    pub(crate) fn open_at<T: NamedTime>(
+        self,
+        clock: T,
+    ) -> Result<OpenRun<T>, (WaitingRun, RunFault)>
         ensures { Opens (startable self.accepted T.NamedTime.kind (T.Plain.plain clock)) self result }
     {
         if starts_at(self.accepted, T::kind(), clock.to_plain()) {

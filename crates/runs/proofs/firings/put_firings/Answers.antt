@@ -8,17 +8,17 @@ use Rattle.runs.proofs.firings.put_firings.Goals as goal
 pub loop-i-init : goal.loop-i-init
 loop-i-init g c = (record { ends = refl; stands = refl }, refl)
 
-pub put-entry-at-requires : goal.put-entry-at-requires
-put-entry-at-requires g c = let at = c.loop-i.invariant.1 in omega arith
+pub put_entry-at-requires : goal.put_entry-at-requires
+put_entry-at-requires g c = let at = c.loop-i.invariant.1 in omega arith
 
 pub loop-i-preserved : goal.loop-i-preserved
 loop-i-preserved g c =
     let e = c.index-log-i.result in
     let at = c.loop-i.invariant.1 in
     let size = line_size g.T.Plain.plain e in
-    let end : c.put-entry-at.result ≡ 63 * (c.loop-i.i + 1) = let f = c.put-entry-at.ensures.ends in omega arith in (
-      lines_next g.T.Plain.plain c.args.log.now c.loop-i.i e c.args.buffer.now c.loop-i.buffer c.put-entry-at.new.buffer c.loop-i.at c.put-entry-at.result
-          c.loop-i-test.true c.index-log-i.is c.loop-i.invariant.0 c.put-entry-at.ensures,
+    let end : c.put_entry-at.result ≡ 63 * (c.loop-i.i + 1) = let f = c.put_entry-at.ensures.ends in omega arith in (
+      lines_next g.T.Plain.plain c.args.log.now c.loop-i.i e c.args.buffer.now c.loop-i.buffer c.put_entry-at.new.buffer c.loop-i.at c.put_entry-at.result
+          c.loop-i-test.true c.index-log-i.is c.loop-i.invariant.0 c.put_entry-at.ensures,
       end,
     )
 

@@ -11,18 +11,18 @@ use Rattle.runs.proofs.reading.read_request.Goals as goal
 abbrev lifted : Result Request ReadFault → Result Request RunFault
 lifted r = result_map_both (λ q. q) carried r
 
-pub returns-in-err-frame : goal.returns-in-err-frame
+pub returns-in_err-frame : goal.returns-in_err-frame
 unfolding read_line
-returns-in-err-frame c =
-    let p = err_from_is_err_and c.from-residual.result c.from-residual.ensures.1 in
-    p.1 ∙ ap Err p.2 ∙ ap (λ r. lifted (line_answer r)) c.in-err-frame.ensures
+returns-in_err-frame c =
+    let p = err_from_is_err_and c.from_residual.result c.from_residual.ensures.1 in
+    p.1 ∙ ap Err p.2 ∙ ap (λ r. lifted (line_answer r)) c.in_err-frame.ensures
 
-pub returns-in-err-request : goal.returns-in-err-request
+pub returns-in_err-request : goal.returns-in_err-request
 unfolding read_line
-returns-in-err-request c =
-    let p = err_from_is_err_and c.from-residual-in-err-request.result c.from-residual-in-err-request.ensures.1 in
-    p.1 ∙ ap Err p.2 ∙ ap (λ r. lifted (frame_answer r)) c.in-err-request.ensures ∙ ap (λ r. lifted (line_answer r)) c.in-ok-frame.ensures
+returns-in_err-request c =
+    let p = err_from_is_err_and c.from_residual-in_err-request.result c.from_residual-in_err-request.ensures.1 in
+    p.1 ∙ ap Err p.2 ∙ ap (λ r. lifted (frame_answer r)) c.in_err-request.ensures ∙ ap (λ r. lifted (line_answer r)) c.in_ok-frame.ensures
 
 pub returns : goal.returns
 unfolding read_line
-returns c = ap (λ r. lifted (frame_answer r)) c.in-ok-request.ensures ∙ ap (λ r. lifted (line_answer r)) c.in-ok-frame.ensures
+returns c = ap (λ r. lifted (frame_answer r)) c.in_ok-request.ensures ∙ ap (λ r. lifted (line_answer r)) c.in_ok-frame.ensures

@@ -4,7 +4,7 @@ use Rattle.slot_heaps.specs.Pending.{listed, Standing}
 use Rattle.key_heaps.specs.Sifts.{BothHeaped}
 use Rattle.timer_queue.specs.Services.{Ready}
 use Rattle.timer_queue.proofs.FiringLoop.{listed_none}
-use Rattle.timer_queue.proofs.ServingLoop.{Serving, serve_begins, serve_ends, wake_ahead, wake_fires, wake_serves, none_rings}
+use Rattle.timer_queue.proofs.ServingLoop.{Serving, serve_begins, serve_counts, serve_ends, wake_ahead, wake_fires, wake_serves, none_rings}
 use Rattle.timer_queue.proofs.advancing.serve.Goals as goal
 
 pub loop-t-init : goal.loop-t-init
@@ -46,6 +46,7 @@ returns-after-loop-t g c =
       held = inv.2;
       ordered = inv.3;
       served = λ r. let s = inv.4 r in serve_ends g.T.Time.before g.met.T.Time.ordered c.args.t (listed c.args.pending c.args.slots.now) c.args.log.now c.loop-t.wakes c.loop-t.log (listed c.loop-t.left c.loop-t.slots) _ _ _ _ s (c.loop-t-test.ensures s.clock);
+      counted = λ r. let s = inv.4 r in serve_counts g.T.Time.before g.met.T.Time.ordered c.args.t (listed c.args.pending c.args.slots.now) c.args.log.now c.loop-t.wakes c.loop-t.log (listed c.loop-t.left c.loop-t.slots) _ _ _ _ s (c.loop-t-test.ensures s.clock);
     }
 
 pub returns-in_default : goal.returns-in_default
@@ -57,6 +58,9 @@ returns-in_default g c =
       held = inv.2;
       ordered = inv.3;
       served = λ r.
+          let s = inv.4 r in
+          absurd (none_rings g.T.Time.before g.met.T.Time.ordered c.args.t (listed c.args.pending c.args.slots.now) c.args.log.now c.loop-t.wakes c.loop-t.log (listed c.loop-t.left c.loop-t.slots) _ _ _ _ s (c.loop-t-test.ensures s.clock) (listed_none c.loop-t.left c.loop-t.slots c.in_default.ensures));
+      counted = λ r.
           let s = inv.4 r in
           absurd (none_rings g.T.Time.before g.met.T.Time.ordered c.args.t (listed c.args.pending c.args.slots.now) c.args.log.now c.loop-t.wakes c.loop-t.log (listed c.loop-t.left c.loop-t.slots) _ _ _ _ s (c.loop-t-test.ensures s.clock) (listed_none c.loop-t.left c.loop-t.slots c.in_default.ensures));
     }
@@ -74,6 +78,12 @@ returns-then-rest-left g c =
       held = omega (arith, inv.2, held);
       ordered = λ h. subst (λ (n : ℕ). BothHeaped g.T.Time.before n c.fire-rest.new.slots) same (f.ordered (inv.3 h));
       served = λ r.
+          let s = inv.4 r in
+          let heap = inv.3 r.heaped in
+          let top = c.in-Some.ensures.2 heap.0 in
+          let fires = wake_fires g.T.Time.before g.met.T.Time.ordered c.args.t (listed c.args.pending c.args.slots.now) c.args.log.now c.loop-t.wakes c.loop-t.log (listed c.loop-t.left c.loop-t.slots) _ _ _ _ c.in-Some.forcing s (c.loop-t-test.ensures s.clock) top _ _ _ (f.fired heap s.distinct) in
+          absurd (omega (arith, fires, f.held, same));
+      counted = λ r.
           let s = inv.4 r in
           let heap = inv.3 r.heaped in
           let top = c.in-Some.ensures.2 heap.0 in

@@ -2,7 +2,7 @@ use Rattle.std.proofs.Common.{◌≡◌, ℕ, ◌+◌, ◌-◌, List, length, ta
 use Rattle.heap_links.specs.declared.slots.Slot.{Slot}
 use Rattle.slot_heaps.specs.Pending.{listed, Standing}
 use Rattle.key_heaps.specs.Sifts.{BothHeaped}
-use Rattle.timer_queue.specs.Services.{Ready, ServedAll}
+use Rattle.timer_queue.specs.Services.{CountedAll, Ready, ServedAll}
 use Rattle.timer_queue.proofs.Fronts.{fronted}
 use Rattle.timer_queue.proofs.inner.run.Goals as goal
 
@@ -37,4 +37,8 @@ returns g c =
           subst (λ (ss : List (Slot g.row.T.Denot)). ServedAll g.T.Time.before c.args.t (listed p (take u old)) (listed l ss) c.serve-service.result.wakes c.args.log.now c.serve-service.new.log (g.A.Alarm.clock c.serve-service.new.alarm) (g.A.Alarm.due c.serve-service.new.alarm)) (sym f.front)
           (subst (λ (k : ℕ). ServedAll g.T.Time.before c.args.t (listed p (take k old)) (listed l c.serve-service.new.slots) c.serve-service.result.wakes c.args.log.now c.serve-service.new.log (g.A.Alarm.clock c.serve-service.new.alarm) (g.A.Alarm.due c.serve-service.new.alarm)) z
           (c.serve-service.ensures.served (subst (λ (k : ℕ). Ready g.T.Time.before p (take k old) (g.A.Alarm.clock c.args.alarm.now) (g.A.Alarm.due c.args.alarm.now) c.args.t) (sym z) r)));
+      counted = λ r.
+          subst (λ (ss : List (Slot g.row.T.Denot)). CountedAll g.T.Time.before c.args.t (listed p (take u old)) (listed l ss)) (sym f.front)
+          (subst (λ (k : ℕ). CountedAll g.T.Time.before c.args.t (listed p (take k old)) (listed l c.serve-service.new.slots)) z
+          (c.serve-service.ensures.counted (subst (λ (k : ℕ). Ready g.T.Time.before p (take k old) (g.A.Alarm.clock c.args.alarm.now) (g.A.Alarm.due c.args.alarm.now) c.args.t) (sym z) r)));
     }

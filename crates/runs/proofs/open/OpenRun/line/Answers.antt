@@ -48,17 +48,17 @@ returns g c =
     let k : Kind g.row.T.Denot = kind_by g.T.Time.before g.T.Plain.reads g.T.Plain.plain g.T.Measured.place g.T.Measured.at g.T.Measured.last in
     let q : TimerQueue g.row.T.Denot = c.args.queue.now in
     let a : g.row.A.Denot = c.args.alarm.now in
-    let did = c.carry-out-outcome.ensures in
+    let did = c.carry_out-outcome.ensures in
     let s : Opened g.row.T.Denot = opened_with g.A.Alarm.clock g.A.Alarm.due c.args.self.now.closing q a in
     let s' : Opened g.row.T.Denot =
-    opened_with g.A.Alarm.clock g.A.Alarm.due c.carry-out-outcome.new.self.closing c.carry-out-outcome.new.queue c.carry-out-outcome.new.alarm in
+    opened_with g.A.Alarm.clock g.A.Alarm.due c.carry_out-outcome.new.self.closing c.carry_out-outcome.new.queue c.carry_out-outcome.new.alarm in
     let t : Tally = tally_of c.args.self.now.counts in
     let t' : Tally = tally_of c.finish.new.counts in
     let room : ℕ = length c.args.buffer.now in
     let log : ℕ = length c.args.log.now in
     let line : List ℕ = c.args.line.now in
-    let u : None ≡ unanswered room (length s.queue.pending) t = listed_size q _ room t None c.pending.ensures.value c.in-default.ensures in
-    let done = told g.T.Plain.plain c.carry-out-outcome.result c.carry-out-outcome.new.log in
+    let u : None ≡ unanswered room (length s.queue.pending) t = listed_size q _ room t None c.pending.ensures.value c.in_default.ensures in
+    let done = told g.T.Plain.plain c.carry_out-outcome.result c.carry_out-outcome.new.log in
     let finished : RepliedBy (heard t tt done) t' tt c.args.buffer.now c.finish.new.buffer c.finish.result =
     subst (λ (x : Counts). RepliedBy (heard (tally_of x) tt done) t' tt c.args.buffer.now c.finish.new.buffer c.finish.result) did.counts c.finish.ensures in
     let reply : Sound g.T.Time.before q → RepliedBy (open_line k room log t s line) t' s' c.args.buffer.now c.finish.new.buffer c.finish.result =
@@ -69,7 +69,7 @@ returns g c =
       sound = did.sound;
       history = λ h. line_carries k g.met.T.Time.ordered room log t s line s'.queue (ap (λ (x : Opened g.row.T.Denot). x.queue) (reply h).left);
       within = written_within _ _ _ c.args.buffer.now c.finish.new.buffer c.finish.result finished (search rules);
-      refused = untouched_so g.T.Plain.plain q c.carry-out-outcome.new.queue _ _ _ _ c.args.log.now c.carry-out-outcome.new.log t c.carry-out-outcome.result
+      refused = untouched_so g.T.Plain.plain q c.carry_out-outcome.new.queue _ _ _ _ c.args.log.now c.carry_out-outcome.new.log t c.carry_out-outcome.result
           c.finish.result.answer finished.answered did.refused;
       spared = did.spared;
     }

@@ -7,6 +7,6 @@ use Rattle.runs.proofs.purposes.Purpose.offsets.Goals as goal
 pub returns : goal.returns
 returns c =
     record {
-      row = c.row-at.ensures;
-      window = subst Windowed (sym c.row-at.ensures) (All-get_or Windowed offsets_of c.args.self.row (0, 0) c.args.self.within every_window);
+      row = c.row_at.ensures;
+      window = subst Windowed (sym c.row_at.ensures) (All-get_or Windowed offsets_of c.args.self.row (0, 0) c.args.self.within every_window);
     }

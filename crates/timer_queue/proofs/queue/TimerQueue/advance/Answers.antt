@@ -10,7 +10,7 @@ use Rattle.queue_rules.specs.Calls.{State, advancing}
 use Rattle.timer_queue.specs.Doing.{state_with, gives}
 use Rattle.timer_queue.specs.Inners.{held_timers}
 use Rattle.timer_queue.specs.Queues.{queue_slots, queue_timers, Sound}
-use Rattle.timer_queue.specs.Services.{ServedAll}
+use Rattle.timer_queue.specs.Services.{CountedAll, Ready, ServedAll}
 use Rattle.queue_rules.specs.Timers.{by_number}
 use Rattle.timer_queue.specs.Views.{view, advance_refusal}
 use Rattle.timer_queue.proofs.Advanced.{as_due, not_back, advanced_so, stayed}
@@ -67,22 +67,21 @@ returns g c =
     let s' : State g.row.T.Denot = view j.usable ys (clock a') (due a') in
     let held = q.held in
     let fired : length xs ≡ length ys + m = omega (arith, c.run-wakes.ensures.held, c.run-wakes.ensures.fewer) in
-    let went : Sound before q → (advance_refusal before u xs (clock a) (due a) t (length old) ≡ None) × ServedAll before t xs ys n old new (clock a') (due a') =
+    let went : Sound before q → (advance_refusal before u xs (clock a) (due a) t (length old) ≡ None) × ServedAll before t xs ys n old new (clock a') (due a') × CountedAll before t xs ys =
     λ h.
     let heap : BothHeaped before p (queue_slots q) = (h.by_hard, h.by_soft) in
-    let free : advance_refusal before u xs (clock a) (due a) t (length old) ≡ None = sym (c.in_ok-check_advance.ensures.answer heap) in (
-      free,
-      c.run-wakes.ensures.served (record {
-        heaped = heap;
-        distinct = h.distinct;
-        proper = h.proper;
-        held = held;
-        due = as_due before o u xs (clock a) (due a) t (length old) free;
-        clock = not_back before o u xs (clock a) (due a) t (length old) free;
-      }),
-    ) in
+    let free : advance_refusal before u xs (clock a) (due a) t (length old) ≡ None = sym (c.in_ok-check_advance.ensures.answer heap) in
+    let ready : Ready before p (queue_slots q) (clock a) (due a) t = record {
+      heaped = heap;
+      distinct = h.distinct;
+      proper = h.proper;
+      held = held;
+      due = as_due before o u xs (clock a) (due a) t (length old) free;
+      clock = not_back before o u xs (clock a) (due a) t (length old) free;
+    } in
+    (free, c.run-wakes.ensures.served ready, c.run-wakes.ensures.counted ready) in
     let out : Sound before q → advancing before s t (length old) ≡ gives (Ok (n, m)) s' (take m new) =
-    λ h. advanced_so before o u xs (clock a) (due a) t (length old) (went h).0 ys n m old new (clock a') (due a') h.distinct h.proper (went h).1 fired
+    λ h. advanced_so before o u xs (clock a) (due a) t (length old) (went h).0 ys n m old new (clock a') (due a') h.distinct h.proper (went h).1 (went h).2 fired
     j.usable c.run-wakes.ensures.spared.usable in
     record {
       done = λ h.
@@ -95,7 +94,7 @@ returns g c =
       greedy = λ h.
           let r = sorted_rearranged by_number xs in
           advance_greedy before o s s' t (length old) (Ok (n, m)) (take m new) (distinct_rearranged r h.distinct) (all_rearranged _ r h.proper) (out h);
-      later = λ h. stayed before o u xs (clock a) (due a) t (length old) (went h).0 ys n m old new (clock a') (due a') h.distinct h.proper (went h).1 fired;
+      later = λ h. stayed before o u xs (clock a) (due a) t (length old) (went h).0 ys n m old new (clock a') (due a') h.distinct h.proper (went h).1 (went h).2 fired;
       refused = tt;
       few = (omega (arith, c.run-wakes.ensures.fewer), omega (arith, c.run-wakes.ensures.fewer), omega (arith, c.in_ok-check_advance.ensures.room));
       unlogged = tt;

@@ -9,7 +9,8 @@ use Rattle.timer_queue.specs.declared.queue.TimerQueue.{TimerQueue}
 use Rattle.queue_rules.specs.Calls.{State, arming}
 use Rattle.timer_queue.specs.Doing.{state_with}
 use Rattle.queue_rules.specs.Events.{armed}
-use Rattle.timer_queue.specs.Inners.{held_timers}
+use Rattle.slot_heaps.specs.Pending.{listed, Inserted, Standing}
+use Rattle.timer_queue.specs.Inners.{held_slots, held_timers}
 use Rattle.timer_queue.specs.Queues.{queue_slots, queue_timers}
 use Rattle.queue_rules.specs.Timers.{timed, least_hard}
 use Rattle.timer_queue.specs.Views.{view, arm_refusal}
@@ -42,8 +43,11 @@ pub invariant_of-self : goal.invariant_of-self
 invariant_of-self g c =
     let i : Inner g.row.T.Denot = c.args.self.now.inner in
     let j : Inner g.row.T.Denot = c.enter.new.inner in
-    typed j (counted_still i j c.enter.ensures.spared c.args.self.now.counted) c.enter.ensures.standing
-    (inserted_length _ (held_timers i) (held_timers j) c.enter.ensures.listed ∙ omega (arith, c.args.self.now.held, c.enter.ensures.pending))
+    let more = sym c.enter.ensures.pending in
+    let x : Timer g.row.T.Denot = timed c.args.number c.args.soft c.args.hard in
+    let list : Inserted x (held_timers i) (held_timers j) = subst (λ (n : ℕ). Inserted x (held_timers i) (listed n (held_slots j))) more c.enter.ensures.listed in
+    typed j (counted_still i j c.enter.ensures.spared c.args.self.now.counted) (subst (λ (n : ℕ). Standing n (held_slots j)) more c.enter.ensures.standing)
+    (inserted_length _ (held_timers i) (held_timers j) list ∙ omega (arith, c.args.self.now.held, c.enter.ensures.pending))
 
 pub returns : goal.returns
 returns g c =
@@ -63,8 +67,9 @@ returns g c =
           let heap : BothHeaped before q.inner.pending (queue_slots q) = (h.by_hard, h.by_soft) in
           let free : arm_refusal before u xs (clock a) (due a) x ≡ None = sym (c.in_ok-check_arm.ensures.answer heap) in
           let ahead = c.check_arm.ensures.ahead in
-          let list = c.enter.ensures.listed in
-          let ordered = c.enter.ensures.ordered heap in
+          let more = sym c.enter.ensures.pending in
+          let list = subst (λ (n : ℕ). Inserted x xs (listed n (held_slots j))) more c.enter.ensures.listed in
+          let ordered = subst (λ (n : ℕ). BothHeaped before n (held_slots j)) more (c.enter.ensures.ordered heap) in
           let least : c.least_in.result ≡ least_hard before ys = c.least_in.ensures ordered in
           let not_past = entered_ahead before o u xs ys (clock a) (due a) x free ahead list h.distinct h.proper in
           let at_least : due c.aim.new.alarm ≡ least_hard before ys = c.aim.ensures.due (subst (NotPast before (clock a)) (sym least) not_past) ∙ least in

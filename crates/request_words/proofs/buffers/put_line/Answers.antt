@@ -1,6 +1,6 @@
 use Rattle.std.proofs.Common.{arith}
 use Rattle.request_words.proofs.Placings.{placed_then, long_digits}
-use Rattle.request_words.proofs.words.put_line.Goals as goal
+use Rattle.request_words.proofs.buffers.put_line.Goals as goal
 
 pub put_decimal-colon-requires : goal.put_decimal-colon-requires
 put_decimal-colon-requires c = omega (arith, long_digits c.args.number (omega arith))

@@ -4,7 +4,7 @@ use Rattle.frames.specs.declared.request.Request.{Request}
 use Rattle.request_words.specs.Placing.{Placed}
 use Rattle.request_words.specs.Words.{request_words}
 use Rattle.request_words.proofs.Placings.{short_digits}
-use Rattle.request_words.proofs.words.put_request.Goals as goal
+use Rattle.request_words.proofs.buffers.put_request.Goals as goal
 
 pub put_number-requires : goal.put_number-requires
 put_number-requires c = omega (arith, short_digits c.in-Cancel.number (omega arith), c.requires)
