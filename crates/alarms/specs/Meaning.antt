@@ -1,5 +1,5 @@
 -- What an alarm means, as a clock and a due time, or none: what each call answers and leaves. Assumes nothing.
-use Rattle.std.specs.Prelude.{◌≡◌, ℕ, ◌+◌, Bool, true, false, cond, Some, None, Ok, Err, Option, Result, nat_lt}
+use Rattle.std.specs.Prelude.{◌≡◌, ℕ, ◌+◌, Bool, false, cond, Some, None, Ok, Err, Option, Result, nat_lt}
 use Rattle.alarms.specs.declared.faults.AlarmFault.{AlarmFault}
 use Rattle.alarms.specs.declared.faults.AlarmFault.TheVariants.{BeforeClock, BeyondReach}
 use Rattle.alarms.specs.declared.faults.Passage.{Passage}

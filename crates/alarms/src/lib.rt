@@ -1,4 +1,6 @@
 // What an alarm is: a clock and a due time. The comparator, and what the other devices build on.
+#![tactic(auto)]
+
 mod comparators;
 mod faults;
 mod meaning;

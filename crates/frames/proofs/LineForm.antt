@@ -1,5 +1,5 @@
 -- What is wrong with a line, in the order in which it is looked for.
-use Rattle.std.proofs.Common.{◌≡◌, ℕ, ◌<◌, ◌≤◌, true, false, cond, List, length, Some, None, Ok, Err, sym, ap, ◌∙◌}
+use Rattle.std.proofs.Common.{◌≡◌, ℕ, ◌<◌, ◌≤◌, true, false, List, length, Some, None, Ok, Err, ap, ◌∙◌}
 use Rattle.std.proofs.lemmas.Bool.{cond-true, cond-false, lt-ltb, le-ltb}
 use Rattle.frames.specs.declared.faults.LineFault.TheVariants.{TooLong, BadCount, NotHex, BadCheck}
 use Rattle.frames.specs.Check.{checked}

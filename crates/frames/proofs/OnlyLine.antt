@@ -1,16 +1,16 @@
 -- A line that reads as a request is that request's line.
-use Rattle.std.proofs.Common.{◌≡◌, ℕ, ◌+◌, ◌-◌, ◌<◌, ◌≤◌, Bool, true, false, cond, eqb, ltb, List, [], ◌∷◌, ◌++◌, length, get_or, take, Some, None, Ok, Err, Option, Result, sym, refl, ap, ◌∙◌, subst, ⊎_elim, zero-add, arith, lit<}
+use Rattle.std.proofs.Common.{◌≡◌, ℕ, ◌+◌, ◌-◌, ◌<◌, Bool, true, false, cond, eqb, ltb, List, [], ◌∷◌, ◌++◌, length, get_or, take, Some, None, Ok, Err, Option, Result, sym, refl, ap, ◌∙◌, subst, ⊎_elim, zero-add, arith, lit<}
 use Rattle.std.proofs.ByRecursion.{All-get_or}
 use Rattle.std.proofs.lemmas.List.{get_or_past, take_more, take_all}
 use Rattle.std.proofs.lemmas.Bool.{cases_Bool, cond-true, cond-false, eqb-true, cases_lt}
 use Rattle.std.specs.List.{AllByRecursion as All}
 use Rattle.frames.specs.declared.faults.LineFault.{LineFault}
-use Rattle.frames.specs.declared.faults.LineFault.TheVariants.{TooLong, BadCount, NotHex, BadCheck}
+use Rattle.frames.specs.declared.faults.LineFault.TheVariants.{TooLong, BadCount, BadCheck}
 use Rattle.frames.specs.declared.faults.FrameFault.{FrameFault}
 use Rattle.frames.specs.declared.faults.FrameFault.TheVariants.{WrongLength}
 use Rattle.frames.specs.declared.request.Request.{Request}
 use Rattle.frames.specs.Check.{check, checked}
-use Rattle.frames.specs.Frame.{field, Kind, open_kind, arm_kind, cancel_kind, advance_kind, close_kind, purpose_kind, kinds, kind_of, asked, asked_as, frame_request}
+use Rattle.frames.specs.Frame.{field, Kind, open_kind, arm_kind, cancel_kind, advance_kind, close_kind, purpose_kind, kinds, kind_of, asked, frame_request}
 use Rattle.frames.specs.Hex.{hex, spelled}
 use Rattle.frames.specs.Line.{counted, checked_bytes, line_bytes}
 use Rattle.frames.specs.Reading.{big_endian, payload_of, with_check, line_of, line_answer, frame_answer, read_line}

@@ -1,10 +1,9 @@
 -- A request's line reads as that request.
-use Rattle.std.proofs.Common.{◌≡◌, ℕ, zero, suc, ◌+◌, ◌-◌, ◌*◌, ◌/◌, ◌%◌, ◌^◌, ◌<◌, ◌≤◌, true, false, List, [], ◌∷◌, ◌++◌, length, get_or, take, Ok, Err, sym, refl, ap, ◌∙◌, arith, lit≤}
+use Rattle.std.proofs.Common.{◌≡◌, ℕ, zero, suc, ◌+◌, ◌-◌, ◌*◌, ◌/◌, ◌%◌, ◌<◌, ◌≤◌, true, false, List, [], ◌∷◌, ◌++◌, length, get_or, take, Ok, sym, refl, ap, ◌∙◌, arith, lit≤}
 use Rattle.std.proofs.lemmas.List.{length_push, get_or_push, take_at}
 use Rattle.std.proofs.ByRecursion.{All-push, All-append}
 use Rattle.std.proofs.lemmas.Bool.{eq-eqb}
 use Rattle.std.proofs.lemmas.Bool.Decides.{nat_tests}
-use Rattle.std.specs.List.{AllByRecursion as All}
 use Rattle.frames.specs.declared.request.Request.{Request}
 use Rattle.frames.specs.declared.request.Request.TheVariants.{Open, Arm, Cancel, Advance, Close, ArmByPurpose}
 use Rattle.frames.specs.Check.{check, checked}
@@ -12,7 +11,7 @@ use Rattle.frames.specs.Frame.{field, frame_request}
 use Rattle.frames.specs.Hex.{hex}
 use Rattle.frames.specs.Line.{counted, line_bytes}
 use Rattle.frames.specs.Reading.{big_endian, payload_of, with_check, Sized, line_of, line_answer, frame_answer, read_line}
-use Rattle.frames.proofs.Fields.{listed, field_big_endian}
+use Rattle.frames.proofs.Fields.{field_big_endian}
 use Rattle.frames.proofs.HexBytes.{Bytes, spelled_hex}
 use Rattle.frames.proofs.LineForm.{well_formed}
 

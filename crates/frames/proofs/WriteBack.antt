@@ -1,8 +1,7 @@
 -- A request whose payload is written as a line: that line stands in the buffer, and reads as the request.
-use Rattle.std.proofs.Common.{◌≡◌, ℕ, ◌*◌, ◌/◌, ◌%◌, ◌<◌, List, [], ◌∷◌, ◌++◌, length, take, drop, IfOk, Ok, Err, Result, sym, refl, ap, ◌∙◌, subst, arith}
+use Rattle.std.proofs.Common.{◌≡◌, ℕ, ◌*◌, ◌/◌, ◌%◌, List, [], ◌∷◌, ◌++◌, length, take, drop, IfOk, Ok, Err, Result, sym, ap, ◌∙◌, subst, arith}
 use Rattle.std.proofs.lemmas.List.{take_at, drop_all}
 use Rattle.frames.specs.declared.faults.WriteFault.{WriteFault}
-use Rattle.frames.specs.declared.faults.WriteFault.TheVariants.{ShortBuffer}
 use Rattle.frames.specs.declared.request.Request.{Request}
 use Rattle.frames.specs.Hex.{hex}
 use Rattle.frames.specs.Reading.{big_endian, Sized, payload_of, with_check, line_of, read_line}

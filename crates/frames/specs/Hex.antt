@@ -1,6 +1,6 @@
 -- Hexadecimal: the character of a digit, the digit of a character, and lists of bytes as characters.
 -- Assumes nothing.
-use Rattle.std.specs.Prelude.{ℕ, zero, suc, ◌+◌, ◌*◌, ◌/◌, ◌%◌, Bool, cond, List, [], ◌∷◌, Some, None, Option, ◌==◌, nat_lt}
+use Rattle.std.specs.Prelude.{ℕ, zero, suc, ◌+◌, ◌*◌, ◌/◌, ◌%◌, cond, List, [], ◌∷◌, Some, None, Option, ◌==◌, nat_lt}
 
 -- the character of a digit below sixteen: '0' to '9', then 'A' to 'F'
 abbrev pub character : ℕ → ℕ

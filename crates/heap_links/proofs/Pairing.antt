@@ -1,5 +1,5 @@
 -- Links that are exchanged on both sides still point at each other.
-use Rattle.std.proofs.Common.{◌≡◌, ℕ, ◌<◌, List, length, get_or, set, sym, refl, ap, ◌∙◌, subst, ⊎_elim, arith}
+use Rattle.std.proofs.Common.{◌≡◌, ℕ, ◌<◌, List, length, get_or, set, sym, ap, ◌∙◌, subst, ⊎_elim, arith}
 use Rattle.std.proofs.lemmas.List.Edits.{swap_is, swapped_from_swap}
 use Rattle.std.proofs.lemmas.Bool.{cases_eq}
 use Rattle.heap_links.specs.Links.{Inverse, Paired, Swapped}

@@ -1,4 +1,6 @@
 // Slots lent for timers, and the links of a heap over them.
+#![tactic(auto)]
+
 pub mod keys;
 pub mod links;
 pub mod slots;

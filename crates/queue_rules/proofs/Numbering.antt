@@ -1,15 +1,15 @@
 -- Timers listed by number: one list for every order in which they lie.
-use Rattle.std.proofs.Common.{◌≡◌, ℕ, Bool, true, false, cond, not, ◌||◌, eqb, ltb, List, [], ◌∷◌, ◌++◌, length, filter, sym, refl, ap, ◌∙◌, subst, ⊎_elim, arith}
+use Rattle.std.proofs.Common.{◌≡◌, ℕ, Bool, true, false, not, ◌||◌, eqb, ltb, List, [], ◌∷◌, filter, sym, refl, ap, ◌∙◌, subst}
 use Rattle.std.specs.List.{AllByRecursion as All}
 use Rattle.std.proofs.ByRecursion.{All-weaker}
-use Rattle.std.proofs.lemmas.Bool.{cases_Bool, cond-true, cond-false, eqb-false, eqb-true, eq-eqb, not_from_true, not_from_false, ltb-true, ltb-false, or_left}
+use Rattle.std.proofs.lemmas.Bool.{cond-true, cond-false, eqb-false, eq-eqb, not_from_true, not_from_false}
 use Rattle.heap_links.specs.declared.timer.Timer.{Timer}
 use Rattle.queue_rules.specs.Lists.{Pairwise, Rearranged, none, keep, swap, then, passes, put, sorted}
 use Rattle.queue_rules.specs.Timers.{Distinct, numbered, by_number}
 use Rattle.queue_rules.proofs.Elements.{pairwise_weaker, pairwise_kept, kept_like, kept_all}
 use Rattle.queue_rules.proofs.Orders.{number_order}
 use Rattle.queue_rules.proofs.Rearranged.{rearranged_back, kept_rearranged, pairwise_rearranged, all_rearranged}
-use Rattle.queue_rules.proofs.Sorting.{Differ, put_rises, put_rearranged, sorted_alike, sorted_rearranged}
+use Rattle.queue_rules.proofs.Sorting.{Differ, put_rises, sorted_alike, sorted_rearranged}
 use Rattle.queue_rules.proofs.Stepping.{eqb_turn}
 
 module _ {A : Type 0} where

@@ -1,20 +1,17 @@
 -- An advance, one wake-up at a time: what was done so far, and what is still to be done.
-use Rattle.std.proofs.Common.{◌≡◌, ℕ, suc, ◌+◌, Bool, true, false, cond, not, List, [], ◌∷◌, ◌++◌, map, length, Some, None, filter, Option, sym, refl, ap, ◌∙◌, subst, arith}
-use Rattle.std.specs.List.{AllByRecursion as All}
-use Rattle.std.proofs.ByRecursion.{all_kept_by}
+use Rattle.std.proofs.Common.{◌≡◌, ℕ, suc, ◌+◌, Bool, true, false, not, List, [], ◌++◌, length, Some, None, Option, sym, refl, ap, ◌∙◌, subst, arith}
 use Rattle.std.proofs.lemmas.List.{append_assoc, append-nil}
 use Rattle.std.proofs.lemmas.Bool.{cond-true, cond-false}
 use Rattle.heap_links.specs.declared.timer.Timer.{Timer}
 use Rattle.queue_rules.specs.declared.firing.Firing.{Firing}
 use Rattle.times.specs.Order.{StrictOrder}
-use Rattle.queue_rules.specs.Lists.{Pairwise, Rearranged, then, sorted}
-use Rattle.queue_rules.specs.Timers.{Distinct, by_number, least_hard}
+use Rattle.queue_rules.specs.Lists.{Pairwise, Rearranged, then}
+use Rattle.queue_rules.specs.Timers.{Distinct, least_hard}
 use Rattle.queue_rules.specs.WakeUps.{Served, still, after, ripe, spared, wake_up, serve_from, walk}
 use Rattle.queue_rules.proofs.Elements.{pairwise_kept}
 use Rattle.queue_rules.proofs.Going.{walk_goes_on, along_walk}
-use Rattle.queue_rules.proofs.Listing.{ServedAlike, walk_alike}
-use Rattle.queue_rules.proofs.Rearranged.{rearranged_itself, rearranged_back, pairwise_rearranged, all_rearranged}
-use Rattle.queue_rules.proofs.Stepping.{eqb_turn}
+use Rattle.queue_rules.proofs.Listing.{walk_alike}
+use Rattle.queue_rules.proofs.Rearranged.{rearranged_itself}
 use Rattle.queue_rules.proofs.Waking.{Proper}
 
 module _ {A : Type 0} (before : A → A → Bool) (o : StrictOrder before) (t : A) where

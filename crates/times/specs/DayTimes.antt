@@ -1,12 +1,12 @@
 -- Day-tick time is measured, and a day over a tick of the day is its plain form. Assumes nothing.
-use Rattle.std.specs.Prelude.{◌≡◌, ℕ, ◌+◌, ◌*◌, ◌/◌, ◌%◌, ◌^◌, ◌<◌, ◌≤◌, Bool, true, false, ◌&&◌, ltb, Some, None, nat_lt, refl}
-use Rattle.std.proofs.Common.{sym, ap, ◌∙◌, ⊎_elim, arith, lit<}
+use Rattle.std.specs.Prelude.{◌≡◌, ℕ, ◌/◌, ◌%◌, ◌^◌, ◌<◌, ◌≤◌, false, ◌&&◌, ltb, Some, None, nat_lt}
+use Rattle.std.proofs.Common.{sym, ap, ⊎_elim, arith, lit<}
 use mathlib.Core.HLevel.{is_prop→PathP}
 use Rattle.std.proofs.Math.Bridge.{le_prop}
 use Rattle.std.proofs.lemmas.Bool.{ltb-false, lt-ltb, le-ltb, and_from, and_left, and_cases}
 use Rattle.times.specs.Places.{Places}
 use Rattle.times.specs.Plain.{PlainForm}
-use Rattle.times.specs.DayTicks.{day_tick_place, day_tick_before, day_tick_of, day_tick_at, day_tick_plain, day_tick_reads, last_day_tick}
+use Rattle.times.specs.DayTicks.{day_tick_place, day_tick_of, day_tick_at, day_tick_plain, day_tick_reads, last_day_tick}
 use Rattle.times.specs.declared.day_ticks.DayTick.{DayTick}
 use Rattle.times.specs.TestedFacts.{tested_is, tested_not, from_some, from_none}
 

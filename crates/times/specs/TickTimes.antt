@@ -1,12 +1,12 @@
 -- Tick time is measured, and its place is its plain form. Assumes nothing.
-use Rattle.std.specs.Prelude.{◌≡◌, ℕ, ◌^◌, ◌<◌, Some, None, nat_lt, refl}
+use Rattle.std.specs.Prelude.{◌≡◌, ℕ, ◌^◌, ◌<◌, Some, nat_lt, refl}
 use Rattle.std.proofs.Common.{ap, arith, lit<}
 use mathlib.Core.HLevel.{is_prop→PathP}
 use Rattle.std.proofs.Math.Bridge.{le_prop}
 use Rattle.std.proofs.lemmas.Bool.{ltb-false, lt-ltb}
 use Rattle.times.specs.Places.{Places}
 use Rattle.times.specs.Plain.{PlainForm}
-use Rattle.times.specs.Ticks.{tick_place, tick_before, tick_at, last_tick}
+use Rattle.times.specs.Ticks.{tick_place, tick_at, last_tick}
 use Rattle.times.specs.declared.ticks.Tick.{Tick}
 use Rattle.times.specs.TestedFacts.{tested_is, from_some, from_none}
 

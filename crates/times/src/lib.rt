@@ -1,4 +1,6 @@
 // Kinds of time: what every kind answers, and two of them.
+#![tactic(auto)]
+
 mod day_ticks;
 mod faults;
 mod order;

@@ -1,4 +1,4 @@
-use Rattle.std.proofs.Common.{◌≡◌, length, get_or, refl, ◌∙◌, arith, ltb-true}
+use Rattle.std.proofs.Common.{◌≡◌, get_or, refl, ◌∙◌, arith, ltb-true}
 use Rattle.std.proofs.lemmas.List.{get_or_past}
 use Rattle.frames.specs.Frame.{open_kind, arm_kind, cancel_kind, advance_kind, close_kind, purpose_kind}
 use Rattle.frames.proofs.FrameKinds.{by_kind, unknown_kind}

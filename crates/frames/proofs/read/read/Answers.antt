@@ -1,7 +1,5 @@
-use Rattle.std.proofs.Common.{◌≡◌, ℕ, List, Err, Result, sym, ap, ◌∙◌}
-use mathlib.Core.Path.{subst⁻¹}
+use Rattle.std.proofs.Common.{◌≡◌, Err, sym, ap, ◌∙◌}
 use Rattle.std.proofs.lemmas.Result.{err_from_is_err_and, IfOk-from_err}
-use Rattle.frames.specs.declared.faults.ReadFault.{ReadFault}
 use Rattle.frames.specs.declared.request.Request.{Request}
 use Rattle.frames.specs.Reading.{read_line, line_of, line_answer, frame_answer}
 use Rattle.frames.proofs.OnlyLine.{only_line}

@@ -1,4 +1,4 @@
-use Rattle.std.proofs.Common.{◌≡◌, ℕ, ◌*◌, List, get_or, ap, ◌∙◌, arith}
+use Rattle.std.proofs.Common.{ℕ, ◌*◌, List, get_or, ap, ◌∙◌, arith}
 use Rattle.frames.specs.Writing.{hexed}
 use Rattle.frames.proofs.HexWrites.{hexed_more, hexed_all}
 use Rattle.frames.proofs.write.put_all.Goals as goal

@@ -1,4 +1,4 @@
-use Rattle.std.proofs.Common.{ℕ, List, [], ◌∷◌, ◌++◌, ap, ◌∙◌, arith}
+use Rattle.std.proofs.Common.{ℕ, List, ◌∷◌, ◌++◌, ap, ◌∙◌, arith}
 use Rattle.frames.specs.declared.request.Request.TheVariants.{Arm}
 use Rattle.frames.specs.Reading.{big_endian}
 use Rattle.frames.proofs.Fields.{listed}

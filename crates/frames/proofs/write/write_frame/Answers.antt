@@ -1,4 +1,4 @@
-use Rattle.std.proofs.Common.{◌≡◌, ℕ, ◌+◌, ◌*◌, ◌≤◌, List, length, sym, refl, ap, ◌∙◌, arith}
+use Rattle.std.proofs.Common.{ℕ, ◌*◌, List, length, sym, refl, ap, ◌∙◌, arith}
 use Rattle.frames.specs.Writing.{hexed}
 use Rattle.frames.proofs.HexWrites.{length_line, line_stands}
 use Rattle.frames.proofs.write.write_frame.Goals as goal

@@ -1,8 +1,6 @@
-use Rattle.std.proofs.Common.{ℕ, List, [], ◌∷◌, ◌++◌, ap, ◌∙◌, arith}
+use Rattle.std.proofs.Common.{ℕ, List, [], ◌∷◌, ◌++◌, ap, arith}
 use Rattle.frames.specs.declared.request.Request.TheVariants.{ArmByPurpose}
-use Rattle.frames.specs.Reading.{big_endian}
-use Rattle.frames.proofs.Fields.{listed}
-use Rattle.frames.proofs.WriteBack.{written, four_bytes, eight_bytes}
+use Rattle.frames.proofs.WriteBack.{written, four_bytes}
 use Rattle.frames.proofs.write.write_purpose.Goals as goal
 
 pub returns : goal.returns

@@ -1,4 +1,4 @@
-use Rattle.std.proofs.Common.{◌≡◌, length, get_or, set, ap, ◌∙◌, subst, arith}
+use Rattle.std.proofs.Common.{◌≡◌, length, get_or, set, subst, arith}
 use Rattle.heap_links.specs.Columns.{ats, places, slot_at, place_of}
 use Rattle.heap_links.specs.Links.{Paired}
 use Rattle.heap_links.proofs.Lengths.{length_ats, length_places}
