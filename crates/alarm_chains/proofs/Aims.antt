@@ -1,5 +1,5 @@
 -- A stage of the chain: as far as the short alarm reaches, or the goal. Assumes nothing.
-use Rattle.std.proofs.Common.{◌≡◌, ℕ, ◌+◌, ◌≤◌, Bool, true, false, ◌⊎◌, Some, None, Option, Result, unwrap_or, refl, inl, inr, arith}
+use Rattle.std.proofs.Common.{◌≡◌, ℕ, ◌+◌, ◌≤◌, Bool, false, ◌⊎◌, Some, None, Option, Result, unwrap_or, refl, inl, inr, arith}
 use Rattle.std.proofs.lemmas.Bool.{cond_both}
 use Rattle.times.specs.Places.{capped}
 use Rattle.times.proofs.Measures.{Measure, before_place, not_before_place, place_not_before}

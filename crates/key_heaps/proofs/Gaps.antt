@@ -1,6 +1,6 @@
 -- A heap with a gap: how an exchange moves it, and when it is closed.
-use Rattle.std.proofs.Common.{◌≡◌, ℕ, zero, suc, ◌+◌, ◌-◌, ◌*◌, ◌/◌, ◌<◌, ◌≤◌, Bool, true, false, sym, refl, ap, ◌∙◌, subst, ⊎_elim, arith}
-use Rattle.std.proofs.lemmas.Bool.{cases_eq, cases_Bool}
+use Rattle.std.proofs.Common.{◌≡◌, ℕ, ◌+◌, ◌<◌, ◌≤◌, Bool, true, false, refl, ap, ◌∙◌, subst, ⊎_elim, arith}
+use Rattle.std.proofs.lemmas.Bool.{cases_eq}
 use Rattle.key_heaps.specs.HeapOrder.{Child, Ordered, Gap, Under, Over}
 use Rattle.heap_links.specs.Links.{Swapped}
 use Rattle.key_heaps.proofs.Orders.{Ranks}

@@ -1,7 +1,7 @@
 -- A heap's order of slots, from the laws of the order of times.
-use Rattle.std.proofs.Common.{◌≡◌, ℕ, ◌<◌, ◌≤◌, Bool, true, false, not, ◌&&◌, ◌||◌, ltb, ◌⊎◌, List, Some, None, Option, sym, refl, ap, ◌∙◌, subst, inl, inr, ⊎_elim, arith}
+use Rattle.std.proofs.Common.{◌≡◌, ◌≤◌, Bool, true, false, not, ◌&&◌, ◌||◌, ltb, List, Some, None, Option, sym, refl, ◌∙◌, subst, ⊎_elim, arith}
 use Rattle.std.specs.List.{slice_get}
-use Rattle.std.proofs.lemmas.Bool.{cases_Bool, both_ways, ltb-true, ltb-false, lt-ltb, le-ltb, or_parts, or_from, or_right, or_cases, and_cases, and_parts, and_left, and_right, not-true, not-false, not_from_true}
+use Rattle.std.proofs.lemmas.Bool.{cases_Bool, both_ways, ltb-true, ltb-false, le-ltb, or_parts, or_from, or_right, or_cases, and_cases, and_parts, and_left, and_right, not-true, not-false, not_from_true}
 use Rattle.times.specs.Order.{StrictOrder}
 use Rattle.heap_links.specs.declared.timer.Timer.{Timer}
 use Rattle.key_heaps.specs.Sooner.{ahead, sooner, precedes}

@@ -1,4 +1,6 @@
 // The short devices: the down-counter and the low-bit matcher.
+#![tactic(auto)]
+
 mod down_counters;
 mod low_bit_matchers;
 mod low_bits;

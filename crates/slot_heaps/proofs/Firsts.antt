@@ -1,9 +1,8 @@
 -- What the first timer of a heap says of all of them.
-use Rattle.std.proofs.Common.{◌≡◌, Bool, true, false, subst, ⊎_elim}
+use Rattle.std.proofs.Common.{◌≡◌, Bool, true, false}
 use Rattle.std.proofs.ByRecursion.{All-weaker}
-use Rattle.std.proofs.lemmas.Bool.{cases_Bool}
 use Rattle.times.specs.Order.{StrictOrder}
-use Rattle.slot_heaps.specs.Firsts.{First, FirstIsLeast, NoneByThen}
+use Rattle.slot_heaps.specs.Firsts.{FirstIsLeast, NoneByThen}
 use Rattle.key_heaps.specs.Sooner.{sooner}
 use Rattle.key_heaps.proofs.Orders.{NotSooner, not_sooner, lt_le}
 

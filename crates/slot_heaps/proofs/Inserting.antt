@@ -1,6 +1,5 @@
 -- A timer goes into a free slot and into both heaps, or out of both.
-use Rattle.std.proofs.Common.{◌≡◌, ℕ, ◌+◌, ◌<◌, ◌≤◌, Bool, true, false, ltb, List, map, length, get_or, set, Some, sym, refl, ap, ◌∙◌, subst, arith}
-use Rattle.std.specs.List.{slice_get}
+use Rattle.std.proofs.Common.{◌≡◌, ℕ, ◌+◌, ◌<◌, ◌≤◌, Bool, true, false, List, map, length, get_or, set, sym, ap, ◌∙◌, subst, arith}
 use Rattle.std.proofs.lemmas.List.{length-map, length-set, get_or-set_same, set-set, set-get_or}
 use Rattle.std.proofs.lemmas.Option.{slice_get-get_or}
 use Rattle.std.proofs.lemmas.Bool.{lt-ltb, le-ltb}
@@ -9,9 +8,8 @@ use Rattle.heap_links.specs.declared.slots.Slot.{Slot}
 use Rattle.heap_links.specs.declared.timer.Timer.{Timer}
 use Rattle.heap_links.specs.Columns.{timers, slot_at, place_of}
 use Rattle.slot_heaps.specs.Firsts.{Holds}
-use Rattle.slot_heaps.specs.Pending.{by_hard, by_soft, pending, listed, Standing, Marked, Filled, Inserted}
+use Rattle.slot_heaps.specs.Pending.{by_hard, by_soft, pending, listed, Standing, Filled, Inserted}
 use Rattle.key_heaps.specs.Sifts.{BothHeaped}
-use Rattle.heap_links.proofs.Lengths.{kept_length}
 use Rattle.key_heaps.proofs.Marking.{pending_at, length_pending}
 use Rattle.slot_heaps.proofs.Picked.{picked, listed_picked, picked_set}
 use Rattle.slot_heaps.proofs.TwoHeaps.{linked_same, pending_same, heaped_filled, free_both}

@@ -1,18 +1,16 @@
 -- Both heaps over the same slots: what changes in one leaves the other, and a slot enters or leaves both.
-use Rattle.std.proofs.Common.{◌≡◌, ℕ, zero, suc, ◌+◌, ◌<◌, ◌≤◌, Bool, true, false, ltb, List, [], ◌∷◌, map, length, get_or, set, sym, refl, ap, ◌∙◌, subst, arith}
+use Rattle.std.proofs.Common.{◌≡◌, ℕ, zero, suc, ◌<◌, ◌≤◌, Bool, false, ltb, List, [], ◌∷◌, map, length, get_or, set, sym, refl, ap, ◌∙◌, subst, arith}
 use Rattle.std.specs.List.{slice_get}
-use Rattle.std.proofs.lemmas.List.{length-map}
 use Rattle.std.proofs.lemmas.Bool.{lt-ltb, le-ltb, ltb-true, ltb-false}
 use Rattle.heap_links.specs.declared.slots.Link.{Link}
 use Rattle.heap_links.specs.declared.slots.Slot.{Slot}
 use Rattle.heap_links.specs.declared.timer.Timer.{Timer}
-use Rattle.heap_links.specs.Columns.{timers, slot_at, place_of, Kept}
+use Rattle.heap_links.specs.Columns.{timers, slot_at, place_of}
 use Rattle.key_heaps.specs.HeapOrder.{Ordered}
 use Rattle.heap_links.specs.Links.{Linked, Paired, Straight}
 use Rattle.slot_heaps.specs.Pending.{by_hard, by_soft, pending, Standing, Marked}
 use Rattle.key_heaps.specs.Sifts.{Heaped}
 use Rattle.key_heaps.specs.Sooner.{ahead, sooner, precedes}
-use Rattle.key_heaps.proofs.Gaps.{by}
 use Rattle.heap_links.proofs.Lengths.{kept_length}
 use Rattle.key_heaps.proofs.Marking.{pending_at}
 

@@ -1,4 +1,6 @@
 // Two binary heaps over lent slots, one by hard time and one by soft time.
+#![tactic(auto)]
+
 mod laws;
 pub mod layout;
 pub mod pending;

@@ -1,20 +1,18 @@
 -- An advance that passes the tests and serves its wake-ups comes out as it is defined.
-use Rattle.std.proofs.Common.{◌≡◌, ℕ, ◌+◌, Bool, false, ltb, List, [], ◌∷◌, ◌++◌, length, take, drop, None, Ok, Option, sym, refl, ap, ◌∙◌, subst, ap₂, zero-add, arith}
+use Rattle.std.proofs.Common.{◌≡◌, ℕ, ◌+◌, Bool, false, List, ◌++◌, length, take, drop, None, Ok, Option, sym, refl, ap, ◌∙◌, ap₂, zero-add, arith}
 use Rattle.std.proofs.lemmas.List.{take_at, drop_at}
 use Rattle.heap_links.specs.declared.timer.Timer.{Timer}
 use Rattle.times.specs.Order.{StrictOrder}
 use Rattle.queue_rules.specs.declared.fault.QueueFault.TheVariants.{AdvancePassed}
 use Rattle.queue_rules.specs.declared.firing.Firing.{Firing}
-use Rattle.queue_rules.specs.Calls.{State, advancing}
+use Rattle.queue_rules.specs.Calls.{advancing}
 use Rattle.timer_queue.specs.Doing.{gives}
-use Rattle.timer_queue.specs.Logs.{logged_at}
 use Rattle.timer_queue.specs.Services.{CountedAll, ServedAll}
 use Rattle.queue_rules.specs.Timers.{Distinct, least_hard}
 use Rattle.timer_queue.specs.Views.{view, advance_refusal}
 use Rattle.queue_rules.specs.WakeUps.{walk}
 use Rattle.timer_queue.proofs.Entering.{view_is, kept_due}
 use Rattle.timer_queue.proofs.Outcomes.{advance_taken}
-use Rattle.queue_rules.proofs.Progress.{Finished}
 use Rattle.queue_rules.proofs.Stepping.{given_none}
 use Rattle.queue_rules.proofs.Waking.{Proper}
 

@@ -1,7 +1,5 @@
 -- A call that came out as it is defined carries every history on.
-use Rattle.std.proofs.Common.{◌≡◌, ℕ, Bool, false, List, [], ◌∷◌, ◌++◌, map, length, is_ok, Some, None, Ok, Err, filter, Option, Result, sym, refl, ap, ◌∙◌, subst}
-use Rattle.std.specs.List.{AllByRecursion as All}
-use Rattle.std.proofs.lemmas.List.{length-map}
+use Rattle.std.proofs.Common.{◌≡◌, ℕ, Bool, List, [], ◌∷◌, ◌++◌, length, is_ok, Some, None, filter, Option, Result, sym, refl, ap, subst}
 use Rattle.heap_links.specs.declared.timer.Timer.{Timer}
 use Rattle.times.specs.Order.{StrictOrder}
 use Rattle.queue_rules.specs.declared.fault.QueueFault.{QueueFault}
@@ -9,13 +7,13 @@ use Rattle.queue_rules.specs.declared.firing.Firing.{Firing}
 use Rattle.queue_rules.specs.Calls.{State, Outcome, conclude, settle, arming, cancelling, advancing, advance_fault}
 use Rattle.timer_queue.specs.Doing.{gives, Carries, Greedily}
 use Rattle.queue_rules.specs.Events.{Event, event, armed, cancelled, advanced, counts, Lived, armed_next, cancelled_next, advanced_next}
-use Rattle.queue_rules.specs.Greedy.{Greedy, wake_times}
+use Rattle.queue_rules.specs.Greedy.{Greedy}
 use Rattle.queue_rules.specs.Timers.{Distinct}
-use Rattle.queue_rules.specs.WakeUps.{Served, walk}
+use Rattle.queue_rules.specs.WakeUps.{walk}
 use Rattle.queue_rules.proofs.Claiming.{claims_hold}
 use Rattle.queue_rules.proofs.Points.{walk_is_greedy}
 use Rattle.queue_rules.proofs.Waking.{Proper}
-use Rattle.queue_rules.proofs.Walking.{Walked, walked}
+use Rattle.queue_rules.proofs.Walking.{walked}
 
 module _ {A : Type 0} (before : A → A → Bool) (o : StrictOrder before) (s s' : State A) where
   carried : (e : Event A) → ((u : ℕ) (c : A) (es : List (Event A)) → Lived before u c es s → Lived before u c (es ++ (e ∷ [])) s') → Carries before s e s'

@@ -1,5 +1,5 @@
 -- A timer that passes the tests and enters the slots is armed.
-use Rattle.std.proofs.Common.{◌≡◌, ℕ, Bool, true, false, not, leb, List, [], ◌∷◌, length, Some, None, Ok, Option, sym, refl, ap, ◌∙◌, subst, ap₂}
+use Rattle.std.proofs.Common.{◌≡◌, ℕ, Bool, false, not, List, [], ◌∷◌, None, Ok, Option, sym, ap, ◌∙◌, subst, ap₂}
 use Rattle.std.specs.List.{AllByRecursion as All}
 use Rattle.std.proofs.lemmas.Bool.{not-false}
 use Rattle.alarms.specs.Meaning.{NotPast}
@@ -7,8 +7,8 @@ use Rattle.heap_links.specs.declared.timer.Timer.{Timer}
 use Rattle.slot_heaps.specs.Pending.{Inserted}
 use Rattle.times.specs.Order.{StrictOrder}
 use Rattle.queue_rules.specs.declared.fault.QueueFault.{QueueFault}
-use Rattle.queue_rules.specs.declared.fault.QueueFault.TheVariants.{AlarmMoved, HardBeforeSoft, SoftPassed, NumberPending, QueueFull}
-use Rattle.queue_rules.specs.Calls.{State, given, same_due, arming}
+use Rattle.queue_rules.specs.declared.fault.QueueFault.TheVariants.{AlarmMoved, HardBeforeSoft, SoftPassed, NumberPending}
+use Rattle.queue_rules.specs.Calls.{same_due, arming}
 use Rattle.timer_queue.specs.Doing.{gives}
 use Rattle.queue_rules.specs.Lists.{Rearranged, passes}
 use Rattle.queue_rules.specs.Timers.{Distinct, numbered, least_hard}

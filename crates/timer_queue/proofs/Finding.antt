@@ -1,8 +1,7 @@
 -- A search by number finds a slot exactly if a pending timer has that number.
-use Rattle.std.proofs.Common.{◌≡◌, ℕ, Bool, true, false, ◌||◌, eqb, List, [], ◌∷◌, is_some, Some, None, Option, sym, refl, ap, ◌∙◌, eq-eqb}
+use Rattle.std.proofs.Common.{◌≡◌, ℕ, Bool, false, ◌||◌, List, [], ◌∷◌, is_some, Some, None, Option, sym, refl, ap, ◌∙◌, eq-eqb}
 use Rattle.std.specs.List.{AllByRecursion as All}
 use Rattle.heap_links.specs.declared.slots.Slot.{Slot}
-use Rattle.heap_links.specs.declared.timer.Timer.{Timer}
 use Rattle.slot_heaps.specs.Firsts.{Found}
 use Rattle.slot_heaps.specs.Pending.{listed}
 use Rattle.queue_rules.specs.Lists.{passes}

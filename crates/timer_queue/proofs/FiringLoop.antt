@@ -1,5 +1,5 @@
 -- The loop of a wake-up: entries so far, and the timers that are left.
-use Rattle.std.proofs.Common.{◌≡◌, ℕ, ◌+◌, ◌<◌, ◌≤◌, Bool, true, false, not, eqb, ltb, List, [], ◌∷◌, ◌++◌, map, length, set, Some, None, filter, Option, sym, refl, ap, ◌∙◌, subst, arith}
+use Rattle.std.proofs.Common.{◌≡◌, ℕ, ◌+◌, ◌<◌, Bool, false, ltb, List, [], ◌∷◌, ◌++◌, map, length, set, Some, sym, ap, ◌∙◌, arith}
 use Rattle.std.specs.List.{AllByRecursion as All}
 use Rattle.std.proofs.lemmas.List.{length_push}
 use Rattle.std.proofs.lemmas.Bool.{not_from_false, le-ltb}
@@ -9,8 +9,7 @@ use Rattle.slot_heaps.specs.Firsts.{First}
 use Rattle.slot_heaps.specs.Pending.{listed, Inserted}
 use Rattle.times.specs.Order.{StrictOrder}
 use Rattle.queue_rules.specs.declared.firing.Firing.{Firing}
-use Rattle.timer_queue.specs.Firings.{fired, Fired}
-use Rattle.queue_rules.specs.Lists.{Rearranged}
+use Rattle.timer_queue.specs.Firings.{Fired}
 use Rattle.timer_queue.specs.Logs.{logged_at}
 use Rattle.queue_rules.specs.Timers.{Distinct, by_soft}
 use Rattle.queue_rules.specs.WakeUps.{entry, ripe}

@@ -1,11 +1,11 @@
 -- A timer that passes the tests and leaves the slots is cancelled.
-use Rattle.std.proofs.Common.{◌≡◌, ℕ, ◌+◌, Bool, false, not, List, [], ◌∷◌, None, Ok, Option, sym, refl, ap, ◌∙◌, subst}
+use Rattle.std.proofs.Common.{◌≡◌, ℕ, ◌+◌, Bool, false, List, [], ◌∷◌, None, Ok, Option, ap, ◌∙◌, subst}
 use Rattle.alarms.specs.Meaning.{NotPast}
 use Rattle.heap_links.specs.declared.timer.Timer.{Timer}
 use Rattle.heap_links.specs.declared.slots.Slot.{Slot}
 use Rattle.slot_heaps.specs.Pending.{listed, Inserted}
 use Rattle.times.specs.Order.{StrictOrder}
-use Rattle.queue_rules.specs.Calls.{State, cancelling}
+use Rattle.queue_rules.specs.Calls.{cancelling}
 use Rattle.timer_queue.specs.Doing.{gives}
 use Rattle.queue_rules.specs.Lists.{Rearranged}
 use Rattle.queue_rules.specs.Timers.{Distinct, least_hard}

@@ -1,6 +1,6 @@
 -- A log filled entry by entry.
 use Rattle.std.proofs.Common.{◌≡◌, ℕ, ◌+◌, ◌<◌, ◌≤◌, List, [], ◌∷◌, ◌++◌, length, get_or, take, drop, set, sym, refl, ap, ◌∙◌, add-zero, arith}
-use Rattle.std.proofs.lemmas.List.{append_assoc, append-nil, length-append, length_push, length-take-le, take-append-drop, drop_more, drop-drop, drop_at, take_at, set_at}
+use Rattle.std.proofs.lemmas.List.{append_assoc, length-append, length_push, length-take-le, take-append-drop, drop_more, drop-drop, drop_at, take_at, set_at}
 use Rattle.timer_queue.specs.Logs.{logged_at}
 
 module _ {X : Type 0} where

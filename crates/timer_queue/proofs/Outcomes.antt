@@ -1,5 +1,5 @@
 -- From timers that lie in any order to the outcomes of the calls.
-use Rattle.std.proofs.Common.{◌≡◌, ℕ, Bool, true, false, cond, not, eqb, ltb, leb, List, [], ◌∷◌, map, length, Some, None, Ok, Err, filter, Option, sym, refl, ap, ◌∙◌, subst, ap₂, ⊎_elim}
+use Rattle.std.proofs.Common.{◌≡◌, ℕ, Bool, true, false, not, eqb, ltb, leb, List, [], ◌∷◌, map, length, Some, None, Ok, Err, filter, Option, sym, refl, ap, ◌∙◌, subst, ap₂}
 use Rattle.std.specs.List.{AllByRecursion as All}
 use Rattle.std.proofs.ByRecursion.{All-weaker}
 use Rattle.std.proofs.lemmas.Bool.{false≢true}
@@ -9,16 +9,16 @@ use Rattle.queue_rules.specs.declared.firing.Firing.{Firing}
 use Rattle.queue_rules.specs.declared.fault.QueueFault.{QueueFault}
 use Rattle.queue_rules.specs.declared.fault.QueueFault.TheVariants.{AlarmMoved, HardBeforeSoft, SoftPassed, NumberPending, QueueFull, NotPending, AdvancePassed, LogShort}
 use Rattle.times.specs.Order.{StrictOrder}
-use Rattle.queue_rules.specs.Lists.{Pairwise, Rearranged, then, passes, put, sorted}
-use Rattle.queue_rules.specs.Timers.{Distinct, numbered, by_number, same, least_hard}
+use Rattle.queue_rules.specs.Lists.{Rearranged, then, passes, put, sorted}
+use Rattle.queue_rules.specs.Timers.{Distinct, numbered, by_number, least_hard}
 use Rattle.queue_rules.specs.WakeUps.{Served, walk}
-use Rattle.queue_rules.specs.Calls.{State, Outcome, given, conclude, same_due, settle, arm_fault, arming, cancel_fault, cancelling, advance_fault, advancing}
+use Rattle.queue_rules.specs.Calls.{State, given, conclude, same_due, settle, arm_fault, arming, cancel_fault, cancelling, advance_fault, advancing}
 use Rattle.timer_queue.specs.Doing.{gives}
 use Rattle.timer_queue.specs.Views.{view, arm_refusal, cancel_refusal, advance_refusal}
 use Rattle.queue_rules.proofs.Elements.{none_passes, map_all, any_so, any_with}
 use Rattle.queue_rules.proofs.Least.{least_none}
-use Rattle.queue_rules.proofs.Listing.{least_hard_alike, ServedAlike, walk_alike}
-use Rattle.queue_rules.proofs.Numbering.{by_number_alike, armed_listed, cancelled_listed, distinct_rearranged, sorted_rises, one_rising, passes_rearranged}
+use Rattle.queue_rules.proofs.Listing.{least_hard_alike, walk_alike}
+use Rattle.queue_rules.proofs.Numbering.{armed_listed, cancelled_listed, distinct_rearranged, sorted_rises, one_rising, passes_rearranged}
 use Rattle.queue_rules.proofs.Orders.{le_le, same_is}
 use Rattle.queue_rules.proofs.Progress.{Finished, walk_keeps}
 use Rattle.queue_rules.proofs.Rearranged.{rearranged_back, length_rearranged, all_rearranged}

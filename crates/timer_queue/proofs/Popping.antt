@@ -1,13 +1,13 @@
 -- A wake-up, one timer at a time: the ripe timer that comes first by soft time and number, again and again.
-use Rattle.std.proofs.Common.{◌≡◌, ℕ, Bool, true, false, cond, not, eqb, List, [], ◌∷◌, ◌++◌, map, Some, None, filter, Option, sym, refl, ap, ◌∙◌, subst, ⊎_elim}
+use Rattle.std.proofs.Common.{◌≡◌, ℕ, Bool, true, false, not, eqb, List, [], ◌∷◌, ◌++◌, map, filter, Option, sym, refl, ap, ◌∙◌, subst, ⊎_elim}
 use Rattle.std.specs.List.{AllByRecursion as All}
 use Rattle.std.proofs.ByRecursion.{All-weaker, all_kept_by}
-use Rattle.std.proofs.lemmas.List.{append_assoc, append-nil, map-append}
+use Rattle.std.proofs.lemmas.List.{append_assoc, append-nil}
 use Rattle.std.proofs.lemmas.Bool.{cases_Bool, cond-true, cond-false, not_from_true, not_from_false}
 use Rattle.heap_links.specs.declared.timer.Timer.{Timer}
 use Rattle.queue_rules.specs.declared.firing.Firing.{Firing}
 use Rattle.times.specs.Order.{StrictOrder}
-use Rattle.queue_rules.specs.Lists.{Pairwise, Rearranged, keep, then, put, sorted}
+use Rattle.queue_rules.specs.Lists.{Rearranged, then, put, sorted}
 use Rattle.queue_rules.specs.Timers.{Distinct, by_soft}
 use Rattle.queue_rules.specs.WakeUps.{entry, ripe, spared}
 use Rattle.queue_rules.proofs.Elements.{none_kept, kept_all, kept_like, pairwise_kept}

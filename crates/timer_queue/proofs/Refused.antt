@@ -1,5 +1,5 @@
 -- A call that a test refuses does nothing, and is recorded as refused.
-use Rattle.std.proofs.Common.{◌≡◌, ℕ, Bool, List, [], is_ok, Some, Err, Option, Result, sym, refl, ap, ◌∙◌, subst}
+use Rattle.std.proofs.Common.{◌≡◌, ℕ, Bool, List, [], is_ok, Err, Option, Result, sym, refl, ap, ◌∙◌, subst}
 use Rattle.times.specs.Order.{StrictOrder}
 use Rattle.queue_rules.specs.declared.fault.QueueFault.{QueueFault}
 use Rattle.queue_rules.specs.declared.firing.Firing.{Firing}

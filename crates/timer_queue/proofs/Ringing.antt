@@ -1,11 +1,11 @@
 -- What a pass of the alarm tells.
-use Rattle.std.proofs.Common.{◌≡◌, ℕ, Bool, true, false, cond, Some, None, Ok, Err, Option, Result, sym, refl, ap, ◌∙◌, subst, ⊎_elim, arith}
+use Rattle.std.proofs.Common.{◌≡◌, ℕ, Bool, false, Some, None, Ok, Option, Result, refl, ap, ◌∙◌, subst, ⊎_elim, arith}
 use Rattle.std.proofs.lemmas.Bool.{cases_Bool, cond-true, cond-false}
 use Rattle.alarms.specs.declared.faults.AlarmFault.{AlarmFault}
 use Rattle.alarms.specs.declared.faults.AlarmFault.TheVariants.{BeforeClock}
 use Rattle.alarms.specs.declared.faults.Passage.{Passage}
-use Rattle.alarms.specs.declared.faults.Passage.TheVariants.{Rang, Arrived}
-use Rattle.timer_queue.specs.Rings.{Rung, Come, Passed}
+use Rattle.alarms.specs.declared.faults.Passage.TheVariants.{Rang}
+use Rattle.timer_queue.specs.Rings.{Rung, Come}
 use Rattle.alarms.specs.Meaning.{Outcome, Gives, refused, rang, arrived, onward, pass_to}
 
 module _ {A : Type 0} (before : A → A → Bool) where

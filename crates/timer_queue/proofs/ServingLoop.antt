@@ -1,5 +1,5 @@
 -- The loop of an advance: wake-ups so far, and what is left.
-use Rattle.std.proofs.Common.{◌≡◌, ℕ, ◌+◌, ◌<◌, ◌≤◌, Bool, true, false, not, List, [], ◌∷◌, ◌++◌, map, length, Some, None, filter, Option, sym, refl, ap, ◌∙◌, subst, arith}
+use Rattle.std.proofs.Common.{◌≡◌, ℕ, ◌+◌, ◌<◌, ◌≤◌, Bool, true, false, not, List, [], ◌++◌, map, length, filter, Option, sym, ap, ◌∙◌, subst, arith}
 use Rattle.std.specs.List.{AllByRecursion as All}
 use Rattle.std.proofs.ByRecursion.{All-weaker, all_kept_by, kept_by_passes}
 use Rattle.std.proofs.lemmas.List.{length-append}
@@ -10,17 +10,17 @@ use Rattle.slot_heaps.specs.Firsts.{First}
 use Rattle.times.specs.Order.{StrictOrder}
 use Rattle.queue_rules.specs.declared.firing.Firing.{Firing}
 use Rattle.timer_queue.specs.Firings.{fired, Fired}
-use Rattle.queue_rules.specs.Lists.{Rearranged, sorted}
+use Rattle.queue_rules.specs.Lists.{sorted}
 use Rattle.timer_queue.specs.Logs.{logged_at}
 use Rattle.timer_queue.specs.Services.{ServedAll, CountedAll}
 use Rattle.queue_rules.specs.Timers.{Distinct, least_hard, by_soft}
-use Rattle.queue_rules.specs.WakeUps.{entry, ripe, spared, bearer, wake_up}
+use Rattle.queue_rules.specs.WakeUps.{entry, ripe, spared, wake_up}
 use Rattle.queue_rules.proofs.Elements.{pairwise_kept, any_with, kept_shorter, all_both}
 use Rattle.timer_queue.proofs.Logging.{log_none, log_join}
 use Rattle.queue_rules.proofs.Numbering.{distinct_rearranged}
-use Rattle.queue_rules.proofs.Orders.{never_both, le_lt, lt_le}
+use Rattle.queue_rules.proofs.Orders.{never_both, lt_le}
 use Rattle.timer_queue.proofs.Outcomes.{all_ahead}
-use Rattle.queue_rules.proofs.Progress.{Late, Progress, Finished, progress_none, progress_more, progress_ends}
+use Rattle.queue_rules.proofs.Progress.{Late, Progress, progress_none, progress_more, progress_ends}
 use Rattle.queue_rules.proofs.Rearranged.{all_rearranged, length_rearranged}
 use Rattle.timer_queue.specs.Rings.{Rung, Come}
 use Rattle.timer_queue.proofs.Tops.{first_hard, first_bears}

@@ -1,14 +1,14 @@
 -- What the first timer of each heap says of a wake-up.
-use Rattle.std.proofs.Common.{◌≡◌, ℕ, ◌≤◌, Bool, true, false, not, ◌&&◌, ◌||◌, eqb, ltb, List, [], ◌∷◌, ◌++◌, map, Some, None, filter, Option, sym, refl, ap, ◌∙◌, subst, inl, inr, ⊎_elim, arith}
+use Rattle.std.proofs.Common.{◌≡◌, Bool, true, false, ltb, List, map, Some, filter, refl, ap, ◌∙◌, inl}
 use Rattle.std.specs.List.{AllByRecursion as All}
 use Rattle.std.proofs.ByRecursion.{All-weaker, All-map, kept_by_passes}
-use Rattle.std.proofs.lemmas.Bool.{le-ltb, not_from_true, not_from_false}
+use Rattle.std.proofs.lemmas.Bool.{le-ltb, not_from_true}
 use Rattle.heap_links.specs.declared.timer.Timer.{Timer}
 use Rattle.slot_heaps.specs.Firsts.{First}
-use Rattle.slot_heaps.specs.Pending.{Inserted, Among}
+use Rattle.slot_heaps.specs.Pending.{Among}
 use Rattle.slot_heaps.proofs.Firsts.{first_is_least, none_by_then}
 use Rattle.times.specs.Order.{StrictOrder}
-use Rattle.queue_rules.specs.Lists.{Any, least}
+use Rattle.queue_rules.specs.Lists.{least}
 use Rattle.queue_rules.specs.Timers.{same, least_hard}
 use Rattle.queue_rules.specs.WakeUps.{ripe, bearer}
 use Rattle.queue_rules.proofs.Elements.{In, any_map, any_at, kept_in, in_kept, all_in, all_from_in}

@@ -1,5 +1,5 @@
 -- What a queue's type keeps, from what the work over its slots leaves.
-use Rattle.std.proofs.Common.{◌≡◌, ℕ, ◌≤◌, List, length, take, sym, ap, ◌∙◌, arith}
+use Rattle.std.proofs.Common.{◌≡◌, ◌≤◌, length, sym, ap, ◌∙◌, arith}
 use Rattle.std.proofs.lemmas.List.{length-take}
 use Rattle.slot_heaps.specs.Pending.{by_hard, by_soft, pending, Standing}
 use Rattle.timer_queue.specs.declared.queue.Inner.{Inner}

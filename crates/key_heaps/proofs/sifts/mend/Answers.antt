@@ -1,4 +1,4 @@
-use Rattle.std.proofs.Common.{subst, arith}
+use Rattle.std.proofs.Common.{arith}
 use Rattle.heap_links.specs.Columns.{timers, slot_at}
 use Rattle.key_heaps.specs.Sifts.{order}
 use Rattle.key_heaps.proofs.Orders.{precedes_ranks}

@@ -1,4 +1,4 @@
-use Rattle.std.proofs.Common.{◌+◌, true, set, sym, ap, ◌∙◌, arith}
+use Rattle.std.proofs.Common.{◌+◌, true, set, ap, ◌∙◌, arith}
 use Rattle.heap_links.specs.Columns.{timers}
 use Rattle.slot_heaps.specs.Pending.{by_hard, by_soft}
 use Rattle.slot_heaps.proofs.Inserting.{place_same, standing_filled, free_filled, length_filled, both_heaped_filled, listed_inserted}

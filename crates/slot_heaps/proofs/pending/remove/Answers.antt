@@ -1,6 +1,5 @@
 use Rattle.std.proofs.Common.{◌+◌, false, sym, ap, ◌∙◌, arith}
 use Rattle.std.specs.List.{slice_get}
-use Rattle.heap_links.specs.Columns.{timers}
 use Rattle.slot_heaps.specs.Pending.{by_hard, by_soft}
 use Rattle.slot_heaps.proofs.Inserting.{place_same, listed_removed}
 use Rattle.heap_links.proofs.Lengths.{kept_length}

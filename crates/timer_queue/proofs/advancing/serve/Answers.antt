@@ -1,10 +1,9 @@
-use Rattle.std.proofs.Common.{◌≡◌, ℕ, ◌+◌, ◌-◌, ◌<◌, ◌≤◌, length, sym, refl, ap, ◌∙◌, subst, arith}
+use Rattle.std.proofs.Common.{◌≡◌, ℕ, ◌+◌, length, sym, refl, ◌∙◌, subst, arith}
 use Rattle.alarms.specs.Meaning.{NotPast}
 use Rattle.slot_heaps.specs.Pending.{listed, Standing}
 use Rattle.key_heaps.specs.Sifts.{BothHeaped}
-use Rattle.timer_queue.specs.Services.{Ready}
 use Rattle.timer_queue.proofs.FiringLoop.{listed_none}
-use Rattle.timer_queue.proofs.ServingLoop.{Serving, serve_begins, serve_counts, serve_ends, wake_ahead, wake_fires, wake_serves, none_rings}
+use Rattle.timer_queue.proofs.ServingLoop.{serve_begins, serve_counts, serve_ends, wake_ahead, wake_fires, wake_serves, none_rings}
 use Rattle.timer_queue.proofs.advancing.serve.Goals as goal
 
 pub loop-t-init : goal.loop-t-init

@@ -1,5 +1,4 @@
-use Rattle.std.proofs.Common.{◌≡◌, ℕ, List, [], length, sym, refl, ap, ◌∙◌, subst, arith, rules}
-use Rattle.heap_links.specs.declared.slots.Slot.{Slot}
+use Rattle.std.proofs.Common.{◌≡◌, length, sym, refl, ap, ◌∙◌, subst, arith, rules}
 use Rattle.slot_heaps.specs.Pending.{listed, Standing}
 use Rattle.key_heaps.specs.Sifts.{BothHeaped}
 use Rattle.timer_queue.proofs.Fronts.{fronted}

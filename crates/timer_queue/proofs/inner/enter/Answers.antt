@@ -1,11 +1,8 @@
-use Rattle.std.proofs.Common.{◌≡◌, ℕ, ◌+◌, ◌-◌, List, length, take, Some, sym, refl, ap, ◌∙◌, subst, arith, rules}
+use Rattle.std.proofs.Common.{◌≡◌, ℕ, ◌+◌, ◌-◌, List, length, take, sym, refl, subst, arith, rules}
 use Rattle.std.proofs.lemmas.List.{length-take-le}
-use Rattle.std.specs.List.{slice_get}
 use Rattle.heap_links.specs.declared.slots.Slot.{Slot}
-use Rattle.heap_links.specs.Columns.{timers}
 use Rattle.slot_heaps.specs.Pending.{listed, Inserted, Standing}
 use Rattle.key_heaps.specs.Sifts.{BothHeaped}
-use Rattle.timer_queue.specs.Inners.{held_slots}
 use Rattle.timer_queue.proofs.Fronts.{fronted}
 use Rattle.timer_queue.proofs.inner.enter.Goals as goal
 

@@ -1,4 +1,4 @@
-use Rattle.std.proofs.Common.{◌≡◌, ℕ, ◌+◌, ◌-◌, List, length, take, sym, refl, ap, ◌∙◌, subst, arith, rules}
+use Rattle.std.proofs.Common.{◌≡◌, ℕ, ◌+◌, ◌-◌, List, length, take, sym, refl, subst, arith, rules}
 use Rattle.heap_links.specs.declared.slots.Slot.{Slot}
 use Rattle.slot_heaps.specs.Pending.{listed, Standing}
 use Rattle.key_heaps.specs.Sifts.{BothHeaped}

@@ -1,4 +1,4 @@
-use Rattle.std.proofs.Common.{◌≡◌, ℕ, List, [], length, is_ok, None, Ok, Err, sym, ap, ◌∙◌, subst, arith}
+use Rattle.std.proofs.Common.{◌≡◌, ℕ, List, is_ok, None, Ok, Err, sym, ap, ◌∙◌, subst, arith}
 use Rattle.alarms.specs.Meaning.{NotPast}
 use Rattle.std.proofs.lemmas.Result.{err_from_is_err_and}
 use Rattle.heap_links.specs.declared.timer.Timer.{Timer}

@@ -1,4 +1,4 @@
-use Rattle.std.proofs.Common.{sym, arith, rules}
+use Rattle.std.proofs.Common.{sym, rules}
 use Rattle.timer_queue.proofs.queue.TimerQueue.pending.Goals as goal
 
 pub returns : goal.returns
