@@ -1,5 +1,7 @@
 // Reads a request file from standard input and writes it in words, a line for each line, and then
 // how many lines, frames and refusals there were. What a line becomes is decided in the libraries.
+#![tactic(auto)]
+
 ghost use Rattle.std.specs.Prelude.{◌≡◌, ◌+◌, ◌≤◌, OnOk};
 
 use frames::read::read;

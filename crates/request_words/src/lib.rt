@@ -1,4 +1,6 @@
 // A request file in words: what each line asks for, or the number it is refused by.
+#![tactic(auto)]
+
 pub mod buffers;
 pub mod hex;
 pub mod place;

@@ -1,7 +1,7 @@
 -- Every file is accounted for, line after line.
 use Rattle.std.proofs.Common.{◌≡◌, ℕ, suc, cond, List, [], ◌∷◌, length, None, Err, refl, ap, arith}
 use Rattle.runs.specs.declared.faults.RunFault.TheVariants.{NotNow}
-use Rattle.runs.specs.Accounts.{Accounted, FilesAccounted}
+use Rattle.runs.specs.Accounts.{FilesAccounted}
 use Rattle.runs.specs.Files.{Run, waiting, ticks, day_ticks, closed, Feed, tick_kind, day_tick_kind, moved, run_line, fed}
 use Rattle.runs.specs.Replies.{Tally, nothing}
 use Rattle.runs.proofs.Adding.{Adds, adds_none, adds_both}

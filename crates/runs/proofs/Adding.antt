@@ -1,6 +1,5 @@
 -- Accounts of two stretches of a file add up to one.
 use Rattle.std.proofs.Common.{◌≡◌, ℕ, ◌+◌, List, [], ◌∷◌, ◌++◌, length, filter, sym, refl, ap, ◌∙◌, ap₂, arith}
-use Rattle.std.specs.List.{flat_map}
 use Rattle.std.proofs.lemmas.List.{append_assoc, length-append}
 use Rattle.std.proofs.lemmas.List.Elements.{filter-append}
 use Rattle.runs.specs.Accounts.{Answer, counted, code, numbered, answer_in, answers_in, woken, fired, logged, total}

@@ -12,7 +12,6 @@ use Rattle.runs.specs.declared.faults.RunFault.TheVariants.{Time, NotNow, Unknow
 use Rattle.runs.specs.declared.opening.Device.{Device}
 use Rattle.runs.specs.declared.opening.Opening.{Opening}
 use Rattle.runs.specs.declared.opening.TimeKind.{TimeKind}
-use Rattle.runs.specs.declared.steps.Step.{Step}
 use Rattle.runs.specs.Accounts.{counts_line}
 use Rattle.runs.specs.Hearing.{carried, request_of, and_then}
 use Rattle.runs.specs.Opened.{Kind, step_in}

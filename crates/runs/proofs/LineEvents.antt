@@ -1,9 +1,9 @@
 -- A line carries every history of the queue on, by the events of the calls that it makes.
-use Rattle.std.proofs.Common.{◌≡◌, ℕ, Bool, List, [], ◌∷◌, ◌++◌, length, Some, None, Ok, Err, Option, Result, sym, refl, subst, append-nil}
+use Rattle.std.proofs.Common.{◌≡◌, ℕ, List, [], ◌∷◌, ◌++◌, length, Some, None, Ok, Err, Option, Result, sym, refl, subst, append-nil}
 use Rattle.times.specs.Order.{StrictOrder}
 use Rattle.queue_rules.specs.declared.fault.QueueFault.{QueueFault}
 use Rattle.queue_rules.specs.declared.firing.Firing.{Firing}
-use Rattle.queue_rules.specs.Calls.{State, conclude, settle, arming, arm_fault, cancelling, cancel_fault, advancing, advance_fault}
+use Rattle.queue_rules.specs.Calls.{State, conclude, arm_fault, cancel_fault, advance_fault}
 use Rattle.queue_rules.specs.Events.{Event, arm_event, cancel_event, advance_event, Lived, armed_next, cancelled_next, advanced_next}
 use Rattle.queue_rules.proofs.Claiming.{claims_hold}
 use Rattle.runs.specs.declared.faults.RunFault.{RunFault}

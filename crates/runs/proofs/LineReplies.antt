@@ -1,5 +1,5 @@
 -- The reply to a line, from what was counted, done and written.
-use Rattle.std.proofs.Common.{◌≡◌, ℕ, ◌≤◌, List, [], length, drop, Some, None, Ok, Err, Option, Result, sym, refl, ap, ◌∙◌, subst, arith}
+use Rattle.std.proofs.Common.{◌≡◌, ℕ, ◌≤◌, List, length, drop, Some, None, Ok, Err, Option, Result, sym, refl, ap, ◌∙◌, subst, arith}
 use Rattle.std.proofs.lemmas.List.{length-append, length-drop}
 use Rattle.queue_rules.specs.declared.firing.Firing.{Firing}
 use Rattle.timer_queue.specs.declared.queue.TimerQueue.{TimerQueue}

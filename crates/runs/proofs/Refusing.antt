@@ -1,10 +1,10 @@
 -- What a refused line leaves, in every state of a run.
-use Rattle.std.proofs.Common.{◌≡◌, ℕ, ◌+◌, ◌*◌, Bool, true, false, cond, ltb, leb, List, [], ◌∷◌, is_err, Some, None, Ok, Err, Option, Result, sym, refl, ap}
+use Rattle.std.proofs.Common.{◌≡◌, ℕ, ◌+◌, ◌*◌, true, cond, ltb, leb, [], ◌∷◌, is_err, Some, None, Ok, Err, Option, Result, sym, refl, ap}
 use Rattle.std.proofs.lemmas.Bool.{false≢true}
 use Rattle.runs.specs.declared.faults.RunFault.{RunFault}
 use Rattle.runs.specs.declared.faults.RunFault.TheVariants.{NotNow}
-use Rattle.runs.specs.Files.{Run, waiting, ticks, day_ticks, closed, Feed, tick_kind, day_tick_kind, as_run, run_line}
-use Rattle.runs.specs.Frames.{Frame, answer}
+use Rattle.runs.specs.Files.{Run, waiting, ticks, day_ticks, closed, tick_kind, day_tick_kind, as_run}
+use Rattle.runs.specs.Frames.{answer}
 use Rattle.runs.specs.Numbers.{run_number}
 use Rattle.runs.specs.Refusals.{RefusedSo, RefusalsLeave}
 use Rattle.runs.specs.Replies.{Tally, Effect, Reply, counting, unanswered, heard, unless, replied}

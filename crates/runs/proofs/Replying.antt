@@ -1,5 +1,5 @@
 -- Each reply is accounted for by its own frames.
-use Rattle.std.proofs.Common.{◌≡◌, ℕ, ◌+◌, ◌*◌, Bool, true, false, cond, ltb, leb, List, [], ◌∷◌, ◌++◌, map, length, Some, None, Ok, Err, filter, Option, Result, sym, refl, ap, ◌∙◌, arith}
+use Rattle.std.proofs.Common.{◌≡◌, ℕ, ◌+◌, ◌*◌, Bool, true, false, cond, ltb, leb, List, [], ◌∷◌, ◌++◌, map, length, Some, None, Ok, Err, Option, Result, sym, refl, ap, ◌∙◌, arith}
 use Rattle.std.specs.Result.{result_map_both}
 use Rattle.queue_rules.specs.declared.fault.QueueFault.{QueueFault}
 use Rattle.queue_rules.specs.declared.firing.Firing.{Firing}
@@ -10,12 +10,11 @@ use Rattle.runs.specs.declared.faults.RunFault.TheVariants.{ShortBuffer, TooMany
 use Rattle.runs.specs.declared.opening.Opening.{Opening}
 use Rattle.runs.specs.declared.steps.Step.{Step}
 use Rattle.runs.specs.declared.steps.Step.TheVariants.{Arm, Cancel, Advance, Close}
-use Rattle.runs.specs.Accounts.{Answer, counts_line, counted, numbered, answers_in, woken, fired, logged, total}
+use Rattle.runs.specs.Accounts.{Answer, counts_line, numbered, answers_in, woken, fired, logged, total}
 use Rattle.runs.specs.Frames.{Frame, answer, firing_frame}
 use Rattle.runs.specs.Hearing.{and_then}
-use Rattle.runs.specs.Numbers.{run_number}
 use Rattle.runs.specs.Opened.{Kind, Opened, called, carried_out, step_in}
-use Rattle.runs.specs.Replies.{Tally, Effect, Reply, quiet, counting, refusing, unanswered, heard, unless, replied}
+use Rattle.runs.specs.Replies.{Tally, Effect, Reply, quiet, refusing, unanswered, heard, unless, replied}
 use Rattle.runs.specs.Waiting.{opening_in}
 use Rattle.runs.proofs.Adding.{answers_append, total_append, Adds}
 use Rattle.runs.proofs.Hearings.{Heard, waiting_heard, open_heard}

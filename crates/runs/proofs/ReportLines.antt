@@ -1,7 +1,7 @@
 -- A line of the report in its place: the frame, then the line feed, and all else as it was.
-use Rattle.std.proofs.Common.{◌≡◌, ℕ, ◌+◌, ◌-◌, ◌*◌, ◌/◌, ◌%◌, ◌<◌, ◌≤◌, List, [], ◌∷◌, ◌++◌, length, get_or, take, drop, set, Ok, Err, Result, sym, refl, ap, ◌∙◌, subst, arith}
+use Rattle.std.proofs.Common.{◌≡◌, ℕ, ◌+◌, ◌-◌, ◌*◌, ◌/◌, ◌%◌, ◌<◌, ◌≤◌, List, [], ◌∷◌, ◌++◌, length, get_or, take, drop, set, Ok, Err, Result, sym, ap, ◌∙◌, subst, arith}
 use borrow.Rule.Slice.PartMut.{put_mid}
-use Rattle.std.proofs.lemmas.List.{append_assoc, append-nil, length-append, length-drop, length_push, length-take-le, drop_all, drop-drop, drop_more, set_at, take_rest}
+use Rattle.std.proofs.lemmas.List.{append_assoc, append-nil, length-append, length-drop, length_push, length-take-le, drop_all, drop-drop, drop_more, set_at}
 use Rattle.frames.specs.declared.faults.WriteFault.{WriteFault}
 use Rattle.frames.specs.declared.faults.WriteFault.TheVariants.{ShortBuffer}
 use Rattle.frames.specs.Hex.{hex}

@@ -1,7 +1,7 @@
 -- A small request file and its report, byte for byte: two timers, one wake-up. Assumes nothing.
 use Rattle.std.specs.Prelude.{◌≡◌, ℕ, true, List, [], ◌∷◌, ◌++◌, map, None, codes}
 use Rattle.std.specs.List.{flat_map}
-use Rattle.runs.specs.Files.{Feed, waiting, fed, totals_frame}
+use Rattle.runs.specs.Files.{waiting, fed, totals_frame}
 use Rattle.runs.specs.Frames.{text}
 use Rattle.runs.specs.Replies.{nothing}
 

@@ -10,7 +10,7 @@ use Rattle.runs.specs.declared.opening.Opening.{Opening}
 use Rattle.runs.specs.Frames.{totals, text}
 use Rattle.runs.specs.Hearing.{request_of, and_then}
 use Rattle.runs.specs.Opening.{opens}
-use Rattle.runs.specs.Replies.{Tally, Effect, Reply, quiet, replied}
+use Rattle.runs.specs.Replies.{Tally, Reply, quiet, replied}
 
 abbrev pub opening_in : Option Opening → List ℕ → Result Opening RunFault
 opening_in (Some o) line = Err NotNow

@@ -1,5 +1,7 @@
 // The run of a request file: it waits, is open, and is closed, each a type of its own. Lines go in, and frames of the report
 // come out. So far an open run has everything but the calls of its queue.
+#![tactic(auto)]
+
 pub mod closed;
 pub mod counts;
 pub mod faults;

@@ -42,8 +42,8 @@ fn refill(piece: &mut Piece, input: &mut Stdin) -> io::Result<bool> {
 }
 
 impl Desk {
-    pub(crate) fn new(rt: HostRuntime) -> Desk {
-        Desk {
+    pub(crate) fn new(rt: HostRuntime) -> io::Result<Desk> {
+        Ok(Desk {
             input: rt.stdin(),
             piece: Piece {
                 bytes: [0; 65536],
@@ -52,8 +52,8 @@ impl Desk {
             },
             splitter: LineSplitter::new(),
             ended: false,
-            output: BufWriter::new(rt.stdout()),
-        }
+            output: BufWriter::new(rt.alloc(), rt.stdout())?,
+        })
     }
 
     // The next line of the input, or none at its end.

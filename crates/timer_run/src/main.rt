@@ -40,7 +40,7 @@ fn wait(
 
 fn main(rt: HostRuntime) -> anyhow::Result<()> {
     let heap = rt.alloc();
-    let mut desk = Desk::new(rt);
+    let mut desk = Desk::new(rt)?;
     let mut run = WaitingRun::new();
     let mut buffer = [0; 23];
     if let Some(opening) = wait(&mut run, &mut desk, &mut buffer)? {

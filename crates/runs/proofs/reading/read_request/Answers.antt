@@ -1,4 +1,4 @@
-use Rattle.std.proofs.Common.{◌≡◌, Err, Result, sym, ap, ◌∙◌}
+use Rattle.std.proofs.Common.{Err, Result, ap, ◌∙◌}
 use Rattle.std.proofs.lemmas.Result.{err_from_is_err_and}
 use Rattle.std.specs.Result.{result_map_both}
 use Rattle.frames.specs.declared.faults.ReadFault.{ReadFault}

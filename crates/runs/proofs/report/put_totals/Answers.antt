@@ -1,4 +1,4 @@
-use Rattle.std.proofs.Common.{ℕ, List, [], ◌∷◌, ◌++◌, ap, ◌∙◌}
+use Rattle.std.proofs.Common.{ℕ, List, ◌∷◌, ◌++◌, ap, ◌∙◌}
 use Rattle.frames.specs.Reading.{big_endian}
 use Rattle.frames.proofs.Fields.{listed}
 use Rattle.frames.proofs.WriteBack.{four_bytes}

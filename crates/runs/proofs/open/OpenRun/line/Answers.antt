@@ -1,4 +1,4 @@
-use Rattle.std.proofs.Common.{◌≡◌, ℕ, List, length, Some, None, Option, sym, refl, ap, ◌∙◌, subst, arith, rules}
+use Rattle.std.proofs.Common.{◌≡◌, ℕ, List, length, Some, None, Option, ap, ◌∙◌, subst, arith, rules}
 use Rattle.queue_rules.specs.Lists.{sorted}
 use Rattle.queue_rules.specs.Timers.{by_number}
 use Rattle.queue_rules.proofs.Rearranged.{length_rearranged}
