@@ -1,12 +1,12 @@
 -- Bytes and their characters determine each other.
 use Rattle.std.proofs.Common.{◌≡◌, ℕ, ◌+◌, ◌*◌, ◌/◌, ◌%◌, ◌<◌, List, [], ◌∷◌, Some, None, Option, sym, refl, ap, ◌∙◌, arith}
-use Rattle.std.specs.List.{AllByRecursion as All}
+use Rattle.std.specs.List.{AllByRecursion}
 use Rattle.frames.specs.Hex.{character, value, pair, before, hex, spelled}
 use Rattle.frames.proofs.HexDigits.{value_character, value_found}
 
 -- a list of numbers that each fit a byte
 abbrev pub Bytes : List ℕ → Type 0
-Bytes bs = All (λ b. b < 256) bs
+Bytes bs = AllByRecursion (λ b. b < 256) bs
 
 pub spelled_hex : (bs : List ℕ) → Bytes bs → spelled (hex bs) ≡ Some bs
 spelled_hex [] h = refl

@@ -3,7 +3,7 @@ use Rattle.std.proofs.Common.{◌≡◌, ℕ, ◌+◌, ◌-◌, ◌<◌, Bool, t
 use Rattle.std.proofs.ByRecursion.{All-get_or}
 use Rattle.std.proofs.lemmas.List.{get_or_past, take_more, take_all}
 use Rattle.std.proofs.lemmas.Bool.{cases_Bool, cond-true, cond-false, eqb-true, cases_lt}
-use Rattle.std.specs.List.{AllByRecursion as All}
+use Rattle.std.specs.List.{AllByRecursion}
 use Rattle.frames.specs.declared.faults.LineFault.{LineFault}
 use Rattle.frames.specs.declared.faults.LineFault.TheVariants.{TooLong, BadCount, BadCheck}
 use Rattle.frames.specs.declared.faults.FrameFault.{FrameFault}
@@ -78,11 +78,11 @@ purpose_faithful bs h e =
     ∙ ap (λ (t : List ℕ). get_or bs 0 0 ∷ t ++ field bs 5 1 ∷ []) (big_endian_field bs h 1 4)
     ∙ ap (λ (x : ℕ). get_or bs 0 0 ∷ listed bs 1 4 ++ x ∷ []) (one_byte bs 5)
 
-faithful : All Faithful kinds
+faithful : AllByRecursion Faithful kinds
 faithful = (open_faithful, (arm_faithful, (cancel_faithful, (advance_faithful, (close_faithful, (purpose_faithful, tt))))))
 
 -- the kind that is found has the byte, and whatever holds of all kinds
-found : (P : Kind → Type 0) (b : ℕ) (ks : List Kind) (k : Kind) → All P ks → kind_of b ks ≡ Some k → (b ≡ k.first) × P k
+found : (P : Kind → Type 0) (b : ℕ) (ks : List Kind) (k : Kind) → AllByRecursion P ks → kind_of b ks ≡ Some k → (b ≡ k.first) × P k
 found P b [] k h p = absurd (let z : ◌≡◌ {A = ℕ} 0 1 = cc in omega arith)
 found P b (x ∷ ks) k h p =
     ⊎_elim {C = (b ≡ k.first) × P k}
@@ -99,7 +99,7 @@ places_small : (bs : List ℕ) → Bytes bs → (i : ℕ) → get_or bs i 0 < 25
 places_small bs h i = ⊎_elim {C = get_or bs i 0 < 256} (λ l. All-get_or (λ b. b < 256) bs i 0 l h) (λ l. let z = get_or_past bs i 0 l in omega arith) (cases_lt i (length bs))
 
 -- no kind's frames are empty
-some_bytes : All (λ k. 0 < k.size) kinds
+some_bytes : AllByRecursion (λ k. 0 < k.size) kinds
 some_bytes = (lit< tt, (lit< tt, (lit< tt, (lit< tt, (lit< tt, (lit< tt, tt))))))
 
 -- a frame that is read is its request's payload with the check byte

@@ -1,6 +1,6 @@
 -- A history with one event more.
 use Rattle.std.proofs.Common.{◌≡◌, ◌+◌, true, false, List, [], ◌∷◌, ◌++◌, sym, refl, ap, ◌∙◌, subst, inl, inr, append_assoc, append-nil, arith}
-use Rattle.std.specs.List.{AllByRecursion as All}
+use Rattle.std.specs.List.{AllByRecursion}
 use Rattle.std.proofs.ByRecursion.{All-append}
 use Rattle.queue_rules.specs.Lists.{Any}
 use Rattle.queue_rules.specs.Events.{Deed, armed, cancelled, advanced, Event}
@@ -34,14 +34,14 @@ module _ {A : Type 0} (e : Event A) where
   longer k = record { timer = k.timer; later = then_too k.later }
 
   module _ (P Q : Course A → Type 0) (step : (k : Course A) → P k → Q (longer k)) where
-    all_first : (d : Deed A) (es : List (Event A)) (ks ks' : List (Course A)) → (All P ks → All Q ks') →
-        All P (course d es ++ ks) → All Q (course d (then_too es) ++ ks')
+    all_first : (d : Deed A) (es : List (Event A)) (ks ks' : List (Course A)) → (AllByRecursion P ks → AllByRecursion Q ks') →
+        AllByRecursion P (course d es ++ ks) → AllByRecursion Q (course d (then_too es) ++ ks')
     all_first (armed true x) es ks ks' f a = (step (record { timer = x; later = es }) a.0, f a.1)
     all_first (armed false x) es ks ks' f a = f a
     all_first (cancelled b n) es ks ks' f a = f a
     all_first (advanced b t n fs) es ks ks' f a = f a
 
-    pub all_courses : (es : List (Event A)) → All P (courses es) → All Q (course e.deed []) → All Q (courses (then_too es))
+    pub all_courses : (es : List (Event A)) → AllByRecursion P (courses es) → AllByRecursion Q (course e.deed []) → AllByRecursion Q (courses (then_too es))
     all_courses [] a b = All-append Q (course e.deed []) [] b tt
     all_courses (d ∷ es) a b = all_first d.deed es (courses es) (courses (then_too es)) (λ h. all_courses es h b) a
 

@@ -1,6 +1,6 @@
 -- The claims follow from the invariant.
 use Rattle.std.proofs.Common.{◌≡◌, ◌≤◌, Bool, true, false, List, [], length, filter, sym, ap, ◌∙◌, subst, ⊎_elim, append-nil}
-use Rattle.std.specs.List.{AllByRecursion as All}
+use Rattle.std.specs.List.{AllByRecursion}
 use Rattle.std.proofs.ByRecursion.{All-weaker}
 use Rattle.std.proofs.lemmas.Bool.{both_ways, and_from}
 use Rattle.queue_rules.specs.declared.firing.Firing.{Firing}
@@ -29,7 +29,7 @@ module _ {A : Type 0} (before : A → A → Bool) (o : StrictOrder before) (c : 
       fate
 
   -- a list that meets each binding window meets that of each marked entry
-  stabs : (times : List A) → All (λ k. binds before (clock_after c es) k ≡ true → Any (Meets before k.timer) times) (courses es) →
+  stabs : (times : List A) → AllByRecursion (λ k. binds before (clock_after c es) k ≡ true → Any (Meets before k.timer) times) (courses es) →
       (f : Firing A) → Marked before o es s f → Stabbed before o times f
   stabs times meets f m =
       any_so (Stabbed before o times f) (λ k g. g) (courses es)

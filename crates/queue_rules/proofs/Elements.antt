@@ -1,6 +1,6 @@
 -- `All`, `Any`, `Pairwise` and `kept_by`: what one of them gives of another.
 use Rattle.std.proofs.Common.{◌≡◌, suc, ◌<◌, ◌≤◌, Bool, true, false, cond, ◌&&◌, List, [], ◌∷◌, ◌++◌, map, length, filter, sym, refl, ap, ◌∙◌, subst, inl, inr, ⊎_elim, arith}
-use Rattle.std.specs.List.{AllByRecursion as All}
+use Rattle.std.specs.List.{AllByRecursion}
 use Rattle.std.proofs.ByRecursion.{All-append, All-weaker}
 use Rattle.std.proofs.lemmas.Bool.{cond-true, cond-false, cond_both, or_parts}
 use Rattle.queue_rules.specs.Lists.{Any, Pairwise, passes}
@@ -10,7 +10,7 @@ abbrev pub In : {X : Type 0} → List X → X → Type 0
 In xs x = Any (λ y. y ≡ x) xs
 
 module _ {X : Type 0} where
-  pub any_with : {P Q R : X → Type 0} → ((x : X) → P x → Q x → R x) → (xs : List X) → All P xs → Any Q xs → Any R xs
+  pub any_with : {P Q R : X → Type 0} → ((x : X) → P x → Q x → R x) → (xs : List X) → AllByRecursion P xs → Any Q xs → Any R xs
   any_with f [] a q = q
   any_with f (x ∷ xs) a (inl q) = inl (f x a.0 q)
   any_with f (x ∷ xs) a (inr q) = inr (any_with f xs a.1 q)
@@ -34,20 +34,20 @@ module _ {X : Type 0} where
   pub any_at : (P : X → Type 0) (x : X) (xs : List X) → In xs x → P x → Any P xs
   any_at P x xs i p = any_weaker (λ y e. subst P (sym e) p) xs i
 
-  pub all_in : (P : X → Type 0) (x : X) (xs : List X) → All P xs → In xs x → P x
+  pub all_in : (P : X → Type 0) (x : X) (xs : List X) → AllByRecursion P xs → In xs x → P x
   all_in P x [] a i = elim i [ ]
   all_in P x (y ∷ xs) a (inl e) = subst P e a.0
   all_in P x (y ∷ xs) a (inr i) = all_in P x xs a.1 i
 
-  pub in_itself : (xs : List X) → All (In xs) xs
+  pub in_itself : (xs : List X) → AllByRecursion (In xs) xs
   in_itself [] = tt
   in_itself (x ∷ xs) = (inl refl, All-weaker (In xs) (In (x ∷ xs)) (λ y i. inr i) xs (in_itself xs))
 
-  pub all_from_in : (P : X → Type 0) (xs : List X) → ((x : X) → In xs x → P x) → All P xs
+  pub all_from_in : (P : X → Type 0) (xs : List X) → ((x : X) → In xs x → P x) → AllByRecursion P xs
   all_from_in P [] f = tt
   all_from_in P (x ∷ xs) f = (f x (inl refl), all_from_in P xs (λ y i. f y (inr i)))
 
-  pub all_both : (P Q : X → Type 0) (xs : List X) → All P xs → All Q xs → All (λ x. P x × Q x) xs
+  pub all_both : (P Q : X → Type 0) (xs : List X) → AllByRecursion P xs → AllByRecursion Q xs → AllByRecursion (λ x. P x × Q x) xs
   all_both P Q [] a b = tt
   all_both P Q (x ∷ xs) a b = ((a.0, b.0), all_both P Q xs a.1 b.1)
 
@@ -64,7 +64,7 @@ module _ {X : Type 0} where
   pairwise_weaker R S f [] p = tt
   pairwise_weaker R S f (x ∷ xs) p = (All-weaker (R x) (S x) (f x) xs p.0, pairwise_weaker R S f xs p.1)
 
-  pub pairwise_append : (R : X → X → Type 0) (xs ys : List X) → Pairwise R xs → Pairwise R ys → All (λ x. All (R x) ys) xs → Pairwise R (xs ++ ys)
+  pub pairwise_append : (R : X → X → Type 0) (xs ys : List X) → Pairwise R xs → Pairwise R ys → AllByRecursion (λ x. AllByRecursion (R x) ys) xs → Pairwise R (xs ++ ys)
   pairwise_append R [] ys p q r = q
   pairwise_append R (x ∷ xs) ys p q r = (All-append (R x) xs ys p.0 r.0, pairwise_append R xs ys p.1 q r.1)
 
@@ -79,7 +79,7 @@ module _ {X Y : Type 0} (f : X → Y) (P : Y → Type 0) where
   map_any (x ∷ xs) (inl p) = inl p
   map_any (x ∷ xs) (inr i) = inr (map_any xs i)
 
-  pub map_all : (xs : List X) → All P (map f xs) → All (λ x. P (f x)) xs
+  pub map_all : (xs : List X) → AllByRecursion P (map f xs) → AllByRecursion (λ x. P (f x)) xs
   map_all [] a = tt
   map_all (x ∷ xs) a = (a.0, map_all xs a.1)
 
@@ -110,7 +110,7 @@ module _ {X : Type 0} (p : X → Bool) where
       (λ _. (all_from_in (R x) (filter p xs) (λ y i. all_in (R x) y xs h.0 (in_kept y xs i)), pairwise_kept R xs h.1))
       (λ _. pairwise_kept R xs h.1)
 
-  pub none_kept : (xs : List X) → All (λ x. p x ≡ false) xs → filter p xs ≡ []
+  pub none_kept : (xs : List X) → AllByRecursion (λ x. p x ≡ false) xs → filter p xs ≡ []
   none_kept [] a = refl
   none_kept (x ∷ xs) a = cond-false (p x) (x ∷ filter p xs) (filter p xs) a.0 ∙ none_kept xs a.1
 
@@ -138,7 +138,7 @@ module _ {X : Type 0} (p : X → Bool) where
       (λ e. cond-true (p (f y)) (f y ∷ map f us) (map f us) e) (λ e. cond-false (p (f y)) (f y ∷ map f us) (map f us) e)
 
   -- a test that does not pass passes no element
-  pub none_passes : (xs : List X) → passes p xs ≡ false → All (λ x. p x ≡ false) xs
+  pub none_passes : (xs : List X) → passes p xs ≡ false → AllByRecursion (λ x. p x ≡ false) xs
   none_passes [] e = tt
   none_passes (x ∷ xs) e = let h = or_parts (p x) (passes p xs) e in (h.0, none_passes xs h.1)
 
@@ -147,7 +147,7 @@ kept_all [] = refl
 kept_all (x ∷ xs) = ap (λ l. x ∷ l) (kept_all xs)
 
 module _ {X : Type 0} (p q : X → Bool) where
-  pub kept_like : (xs : List X) → All (λ x. p x ≡ q x) xs → filter p xs ≡ filter q xs
+  pub kept_like : (xs : List X) → AllByRecursion (λ x. p x ≡ q x) xs → filter p xs ≡ filter q xs
   kept_like [] a = refl
   kept_like (x ∷ xs) a =
       ap (λ b. cond b (x ∷ filter p xs) (filter p xs)) a.0 ∙ ap (λ l. cond (q x) (x ∷ l) l) (kept_like xs a.1)

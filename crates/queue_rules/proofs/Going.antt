@@ -1,6 +1,6 @@
 -- How to reason along the wake-ups of an advance, and that the room it has for them is enough.
 use Rattle.std.proofs.Common.{◌≡◌, ℕ, zero, suc, ◌<◌, ◌≤◌, Bool, true, false, cond, not, List, [], ◌∷◌, map, length, Some, None, Option, sym, refl, ap, subst, arith}
-use Rattle.std.specs.List.{AllByRecursion as All}
+use Rattle.std.specs.List.{AllByRecursion}
 use Rattle.std.proofs.ByRecursion.{All-weaker, all_kept_by}
 use Rattle.std.proofs.lemmas.Bool.{cond_both, not_from_true}
 use Rattle.heap_links.specs.declared.timer.Timer.{Timer}
@@ -25,7 +25,7 @@ module _ {A : Type 0} (before : A → A → Bool) (o : StrictOrder before) where
   module _ (t : A) where
     -- what holds where no hard time is before t, and of a wake-up and then more where it holds of the more, holds of every advance
     module _ (P : List (Timer A) → Served A → Type 0)
-        (stay : (xs : List (Timer A)) → All (λ x. before x.hard t ≡ false) xs → P xs (still xs))
+        (stay : (xs : List (Timer A)) → AllByRecursion (λ x. before x.hard t ≡ false) xs → P xs (still xs))
         (wake : (w : A) (xs : List (Timer A)) (r : Served A) → Proper before o xs → Next before o xs w → before w t ≡ true →
         P (spared before w xs) r → P xs (after before w xs r)) where
       abbrev Goes : ℕ → Type 0
@@ -34,7 +34,7 @@ module _ {A : Type 0} (before : A → A → Bool) (o : StrictOrder before) where
       goes_from : (n : ℕ) → Goes n → (xs : List (Timer A)) → length xs ≤ suc n → Proper before o xs →
           (h : Option A) → least_hard before xs ≡ h → P xs (serve_from before (serve before n t) t xs h)
       goes_from n ih xs l proper None e =
-          stay xs (map_all (λ x. x.hard) (λ h. before h t ≡ false) xs (subst (All (λ h. before h t ≡ false)) (sym (least_none before o (map (λ x. x.hard) xs) e)) tt))
+          stay xs (map_all (λ x. x.hard) (λ h. before h t ≡ false) xs (subst (AllByRecursion (λ h. before h t ≡ false)) (sym (least_none before o (map (λ x. x.hard) xs) e)) tt))
       goes_from n ih xs l proper (Some w) e =
           let next = next_hard before o xs w e in
           let fewer = spares_fewer w xs proper e in

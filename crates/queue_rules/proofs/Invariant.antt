@@ -1,6 +1,6 @@
 -- What every list of calls keeps, and what a call has to do to keep it.
 use Rattle.std.proofs.Common.{◌≡◌, Bool, true, false, ◌⊎◌, List, [], ◌∷◌, ◌++◌, length, filter}
-use Rattle.std.specs.List.{AllByRecursion as All}
+use Rattle.std.specs.List.{AllByRecursion}
 use Rattle.heap_links.specs.declared.timer.Timer.{Timer}
 use Rattle.queue_rules.specs.declared.firing.Firing.{Firing}
 use Rattle.times.specs.Order.{StrictOrder}
@@ -49,13 +49,13 @@ module _ {A : Type 0} (before : A → A → Bool) (o : StrictOrder before) where
   pub record Holds (c : A) (es : List (Event A)) (s : State A) : Type 0 where
     pub sound : Standing before s
     pub now : clock_after c es ≡ s.clock
-    pub fates : All (Fate s) (courses es)
-    pub owned : All (Owned es) s.pending
+    pub fates : AllByRecursion (Fate s) (courses es)
+    pub owned : AllByRecursion (Owned es) s.pending
     pub counts : length (marked es) ≡ wake_ups es
     pub apart : Pairwise (Over before o) (marked es)
-    pub bound : All (Marked es s) (marked es)
+    pub bound : AllByRecursion (Marked es s) (marked es)
     pub logs : NothingElseLogged before es
-    pub counted : All (λ e. Counted e.deed) es
+    pub counted : AllByRecursion (λ e. Counted e.deed) es
 
   -- the event leaves p alone
   pub record Quiet (e : Event A) (p : Timer A) : Type 0 where
@@ -81,11 +81,11 @@ module _ {A : Type 0} (before : A → A → Bool) (o : StrictOrder before) where
     pub usable : s'.usable ≡ s.usable
     pub now : e.clock ≡ s'.clock
     pub onward : before s'.clock s.clock ≡ false
-    pub treated : All (Treated e s') s.pending
-    pub fresh : All (λ k. In s'.pending k.timer) (course e.deed [])
-    pub origins : All (Origin s e) s'.pending
+    pub treated : AllByRecursion (Treated e s') s.pending
+    pub fresh : AllByRecursion (λ k. In s'.pending k.timer) (course e.deed [])
+    pub origins : AllByRecursion (Origin s e) s'.pending
     pub logs : Logs before o s.pending (logged e.deed)
     pub counts : length (marks before o (logged e.deed)) ≡ woken e.deed
     pub apart : Pairwise (Over before o) (marks before o (logged e.deed))
-    pub over : All (λ f. Past before o f.hard s'.clock s'.pending) (marks before o (logged e.deed))
+    pub over : AllByRecursion (λ f. Past before o f.hard s'.clock s'.pending) (marks before o (logged e.deed))
     pub counted : Counted e.deed

@@ -1,6 +1,6 @@
 -- A step keeps the invariant.
 use Rattle.std.proofs.Common.{◌≡◌, ◌+◌, Bool, true, false, not, ◌&&◌, ◌||◌, List, [], ◌∷◌, ◌++◌, length, filter, sym, refl, ap, ◌∙◌, subst, ap₂, inl, inr, ⊎_elim, append_assoc, append-nil, length-append}
-use Rattle.std.specs.List.{AllByRecursion as All}
+use Rattle.std.specs.List.{AllByRecursion}
 use Rattle.std.proofs.lemmas.List.Elements.{filter-append}
 use Rattle.std.proofs.ByRecursion.{All-weaker, All-append, All-push, all_kept_by}
 use Rattle.heap_links.specs.declared.timer.Timer.{Timer}
@@ -46,7 +46,7 @@ module _ {A : Type 0} (before : A → A → Bool) (o : StrictOrder before) where
   new_alive (cancelled b n) Q i = elim i [ ]
   new_alive (advanced b t n fs) Q i = elim i [ ]
 
-  new_fates : (d : Deed A) (s : State A) → All (λ k. In s.pending k.timer) (course d []) → All (Fate before o s) (course d [])
+  new_fates : (d : Deed A) (s : State A) → AllByRecursion (λ k. In s.pending k.timer) (course d []) → AllByRecursion (Fate before o s) (course d [])
   new_fates (armed true x) s a = (inl (record { unfired = λ more. refl; undropped = λ more. refl; untried = λ more. refl }, a.0), tt)
   new_fates (armed false x) s a = tt
   new_fates (cancelled b n) s a = tt
@@ -93,7 +93,7 @@ module _ {A : Type 0} (before : A → A → Bool) (o : StrictOrder before) where
         (⊎_elim {C = Fate before o s' (longer e k)} (λ h. inr (inl (done_more k h)))
         (λ h. inr (inr (λ more. ap (dropped k.timer.number) (shift e k.later more) ∙ h (e ∷ more)))))
 
-    owned_more : (es : List (Event A)) (q : Timer A) → All (Owned before o es) s.pending → Origin before o s e q → Owned before o (then_too e es) q
+    owned_more : (es : List (Event A)) (q : Timer A) → AllByRecursion (Owned before o es) s.pending → Origin before o s e q → Owned before o (then_too e es) q
     owned_more es q own =
         ⊎_elim {C = Owned before o (then_too e es) q}
         (λ h. any_courses e (λ k. (k.timer ≡ q) × Alive before o k) (λ k. (k.timer ≡ q) × Alive before o k)
@@ -125,8 +125,8 @@ module _ {A : Type 0} (before : A → A → Bool) (o : StrictOrder before) where
               (all_in (Treated before o e s') p s.pending step.treated h.1),
         )
 
-    entries_due : (es : List (Event A)) → All (Owned before o es) s.pending →
-        All (λ f. Any (DueOnce before (logged e.deed) f) (courses es)) (logged e.deed)
+    entries_due : (es : List (Event A)) → AllByRecursion (Owned before o es) s.pending →
+        AllByRecursion (λ f. Any (DueOnce before (logged e.deed) f) (courses es)) (logged e.deed)
     entries_due es own =
         let fs = logged e.deed in
         all_from_in (λ f. Any (DueOnce before fs f) (courses es)) fs
@@ -156,7 +156,7 @@ module _ {A : Type 0} (before : A → A → Bool) (o : StrictOrder before) where
               ap (λ b. b || (not (tries k.timer.number e.deed) && undisturbed before k.timer more)) passed,
         )
 
-    bound_new : (es : List (Event A)) → All (Owned before o es) s.pending → All (Marked before o (then_too e es) s') (marks before o (logged e.deed))
+    bound_new : (es : List (Event A)) → AllByRecursion (Owned before o es) s.pending → AllByRecursion (Marked before o (then_too e es) s') (marks before o (logged e.deed))
     bound_new es own =
         let fs = logged e.deed in
         all_from_in (Marked before o (then_too e es) s') (marks before o fs)
@@ -168,12 +168,12 @@ module _ {A : Type 0} (before : A → A → Bool) (o : StrictOrder before) where
               (λ k h. bound_now k f r.0 h.0 h.1 r.2 over) es (all_in (Owned before o es) r.0 s.pending own r.1),
         ))
 
-    apart_more : (es : List (Event A)) → Pairwise (Over before o) (marked es) → All (Marked before o es s) (marked es) → Pairwise (Over before o) (marked (then_too e es))
+    apart_more : (es : List (Event A)) → Pairwise (Over before o) (marked es) → AllByRecursion (Marked before o es s) (marked es) → Pairwise (Over before o) (marked (then_too e es))
     apart_more es p b =
         let fs = logged e.deed in
         subst (Pairwise (Over before o)) (sym (marked_more es))
         (pairwise_append (Over before o) (marked es) (marks before o fs) p step.apart
-        (All-weaker (Marked before o es s) (λ f. All (Over before o f) (marks before o fs))
+        (All-weaker (Marked before o es s) (λ f. AllByRecursion (Over before o f) (marks before o fs))
         (λ f h. all_kept_by (λ g. g.mark) (Over before o f) fs (logs_after before o f.hard s.pending fs h.0.softs step.logs))
         (marked es) b))
 
@@ -186,7 +186,7 @@ module _ {A : Type 0} (before : A → A → Bool) (o : StrictOrder before) where
       counts = ap length (marked_more es) ∙ length-append (marked es) (marks before o (logged e.deed)) ∙
           ap₂ ◌+◌ h.counts step.counts ∙ sym (wake_ups_more e es);
       apart = apart_more es h.apart h.bound;
-      bound = subst (All (Marked before o (then_too e es) s')) (sym (marked_more es))
+      bound = subst (AllByRecursion (Marked before o (then_too e es) s')) (sym (marked_more es))
           (All-append (Marked before o (then_too e es) s') (marked es) (marks before o (logged e.deed))
           (All-weaker (Marked before o es s) (Marked before o (then_too e es) s') (bound_still es) (marked es) h.bound) (bound_new es h.owned));
       logs = each_more e _ [] es h.logs (entries_due es h.owned);

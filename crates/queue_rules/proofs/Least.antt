@@ -1,6 +1,6 @@
 -- The least element stands in the list, and none is less; so a rearrangement has the same.
 use Rattle.std.proofs.Common.{◌≡◌, Bool, false, List, [], ◌∷◌, Some, None, Option, sym, refl, subst, inl, inr}
-use Rattle.std.specs.List.{AllByRecursion as All}
+use Rattle.std.specs.List.{AllByRecursion}
 use Rattle.std.proofs.ByRecursion.{All-weaker}
 use Rattle.std.proofs.lemmas.Bool.{cond_both}
 use Rattle.times.specs.Order.{StrictOrder}
@@ -11,7 +11,7 @@ use Rattle.queue_rules.proofs.Orders.{never_both, le_le}
 -- m stands in xs, and nothing there is less
 pub record Lowest {X : Type 0} (lt : X → X → Bool) (xs : List X) (m : X) : Type 0 where
   pub stands : In xs m
-  pub bounds : All (λ x. lt x m ≡ false) xs
+  pub bounds : AllByRecursion (λ x. lt x m ≡ false) xs
 
 module _ {X : Type 0} (lt : X → X → Bool) (o : StrictOrder lt) where
   abbrev Found : List X → Option X → Type 0
@@ -20,7 +20,7 @@ module _ {X : Type 0} (lt : X → X → Bool) (o : StrictOrder lt) where
 
   found_more : (x : X) (xs : List X) (m : Option X) → Found xs m → Lowest lt (x ∷ xs) (lesser lt x m)
   found_more x xs None e =
-      record { stands = inl refl; bounds = (o.irreflexive x, subst (All (λ y. lt y x ≡ false)) (sym e) tt) }
+      record { stands = inl refl; bounds = (o.irreflexive x, subst (AllByRecursion (λ y. lt y x ≡ false)) (sym e) tt) }
   found_more x xs (Some m) f =
       cond_both (lt m x) m x (Lowest lt (x ∷ xs))
       (λ t. record { stands = inr f.stands; bounds = (never_both lt o m x t, f.bounds) })

@@ -1,6 +1,6 @@
 -- An advance takes a step, so that every list of calls keeps the invariant.
 use Rattle.std.proofs.Common.{◌≡◌, ℕ, Bool, true, false, List, [], length, is_ok, Some, None, filter, Option, sym, refl, ap, ◌∙◌, subst, inl, inr, ⊎_elim, arith}
-use Rattle.std.specs.List.{AllByRecursion as All}
+use Rattle.std.specs.List.{AllByRecursion}
 use Rattle.std.proofs.lemmas.List.{length-map}
 use Rattle.std.proofs.ByRecursion.{All-weaker}
 use Rattle.std.proofs.lemmas.Bool.{both_ways}
@@ -48,7 +48,7 @@ module _ {A : Type 0} (before : A → A → Bool) (o : StrictOrder before) where
         let test = given_none (before t s.clock) AdvancePassed _ (sym (alarm_kept before o s h _) ∙ passed) in
         record {
           sound = subst (λ ps. Standing before (settle before s ps t)) (sym w.left)
-              (standing_kept before o s w.test t h (subst (All (λ p. before p.hard t ≡ false)) w.left w.ahead));
+              (standing_kept before o s w.test t h (subst (AllByRecursion (λ p. before p.hard t ≡ false)) w.left w.ahead));
           usable = refl;
           now = refl;
           onward = test.0;

@@ -1,6 +1,6 @@
 -- Timers listed by number: one list for every order in which they lie.
 use Rattle.std.proofs.Common.{◌≡◌, ℕ, Bool, true, false, not, ◌||◌, eqb, ltb, List, [], ◌∷◌, filter, sym, refl, ap, ◌∙◌, subst}
-use Rattle.std.specs.List.{AllByRecursion as All}
+use Rattle.std.specs.List.{AllByRecursion}
 use Rattle.std.proofs.ByRecursion.{All-weaker}
 use Rattle.std.proofs.lemmas.Bool.{cond-true, cond-false, eqb-false, eq-eqb, not_from_true, not_from_false}
 use Rattle.heap_links.specs.declared.timer.Timer.{Timer}
@@ -41,7 +41,7 @@ module _ {A : Type 0} where
       (all_rearranged (Apart x) (sorted_rearranged by_number xs) (All-weaker (λ y. eqb x.number y.number ≡ false) (Apart x) (λ y. apart x y) xs d.0))
       (sorted_rises xs d.1)
 
-  put_lowest : (x : Timer A) (ys : List (Timer A)) → All (λ y. by_number x y ≡ true) ys → put by_number x ys ≡ x ∷ ys
+  put_lowest : (x : Timer A) (ys : List (Timer A)) → AllByRecursion (λ y. by_number x y ≡ true) ys → put by_number x ys ≡ x ∷ ys
   put_lowest x [] h = refl
   put_lowest x (y ∷ ys) h = cond-true (by_number x y) (x ∷ (y ∷ ys)) (y ∷ put by_number x ys) h.0
 
@@ -64,7 +64,7 @@ module _ {A : Type 0} where
       let d' : Distinct (x ∷ ys) = distinct_rearranged r d in
       let p : Timer A → Bool = λ y. not (numbered n y) in
       let gone : p x ≡ false = not_from_true (numbered n x) (eq-eqb x.number n e) in
-      let stay : All (λ y. p y ≡ true) ys =
+      let stay : AllByRecursion (λ y. p y ≡ true) ys =
       All-weaker (λ y. eqb x.number y.number ≡ false) (λ y. p y ≡ true)
       (λ y f. not_from_false (numbered n y) (ap (eqb y.number) (sym e) ∙ eqb_turn x.number y.number f)) ys d'.0 in
       let all : filter p (x ∷ ys) ≡ ys = cond-false (p x) (x ∷ filter p ys) (filter p ys) gone ∙ kept_like p (λ _. true) ys stay ∙ kept_all ys in

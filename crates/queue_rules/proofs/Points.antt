@@ -1,6 +1,6 @@
 -- The wake times of an advance are the textbook greedy's points.
 use Rattle.std.proofs.Common.{◌≡◌, Bool, true, false, not, ◌||◌, List, [], ◌∷◌, filter, sym, refl, ap, ◌∙◌, subst}
-use Rattle.std.specs.List.{AllByRecursion as All}
+use Rattle.std.specs.List.{AllByRecursion}
 use Rattle.std.proofs.ByRecursion.{All-weaker, all_kept_by}
 use Rattle.heap_links.specs.declared.timer.Timer.{Timer}
 use Rattle.times.specs.Order.{StrictOrder}
@@ -15,11 +15,11 @@ module _ {A : Type 0} (before : A → A → Bool) (o : StrictOrder before) (t : 
   abbrev ending : List (Timer A) → List (Timer A)
   ending = filter (λ x. before x.hard t)
 
-  none_ending : (xs : List (Timer A)) → All (λ x. before x.hard t ≡ false) xs → Greedy before (ending xs) []
+  none_ending : (xs : List (Timer A)) → AllByRecursion (λ x. before x.hard t ≡ false) xs → Greedy before (ending xs) []
   none_ending xs a = subst (λ l. Greedy before l []) (sym (none_kept (λ x. before x.hard t) xs a)) all_met
 
   -- where no window ends before w, those that w does not meet are those that are not ripe
-  unmet : (w : A) (xs : List (Timer A)) → All (λ x. before x.hard w ≡ false) xs →
+  unmet : (w : A) (xs : List (Timer A)) → AllByRecursion (λ x. before x.hard w ≡ false) xs →
       ending (spared before w xs) ≡ filter (λ x. not (met before x w)) (ending xs)
   unmet w xs a =
       ap ending (kept_like (λ x. not (ripe before w x)) (λ x. not (met before x w)) xs

@@ -1,6 +1,6 @@
 -- What a rearrangement keeps.
 use Rattle.std.proofs.Common.{◌≡◌, suc, Bool, true, false, cond, List, [], ◌∷◌, map, length, Some, None, filter, Option, refl, ap, ◌∙◌, subst, inl, inr, arith}
-use Rattle.std.specs.List.{AllByRecursion as All}
+use Rattle.std.specs.List.{AllByRecursion}
 use Rattle.times.specs.Order.{StrictOrder}
 use Rattle.queue_rules.specs.Lists.{Pairwise, Rearranged, none, keep, swap, then, least}
 use Rattle.queue_rules.proofs.Elements.{In}
@@ -23,7 +23,7 @@ module _ {X : Type 0} where
   length_rearranged (swap x y xs) = refl
   length_rearranged (then r q) = length_rearranged r ∙ length_rearranged q
 
-  pub all_rearranged : (P : X → Type 0) {xs ys : List X} → Rearranged xs ys → All P xs → All P ys
+  pub all_rearranged : (P : X → Type 0) {xs ys : List X} → Rearranged xs ys → AllByRecursion P xs → AllByRecursion P ys
   all_rearranged P none a = a
   all_rearranged P (keep x r) a = (a.0, all_rearranged P r a.1)
   all_rearranged P (swap x y xs) a = (a.1.0, (a.0, a.1.1))

@@ -1,6 +1,6 @@
 -- Insertion sort by a key: a rearrangement of its list, and one list for all rearrangements.
 use Rattle.std.proofs.Common.{◌≡◌, Bool, true, false, List, [], ◌∷◌, sym, refl, ap, ◌∙◌, ⊎_elim}
-use Rattle.std.specs.List.{AllByRecursion as All}
+use Rattle.std.specs.List.{AllByRecursion}
 use Rattle.std.proofs.ByRecursion.{All-weaker}
 use Rattle.std.proofs.lemmas.Bool.{cond_both, cases_Bool, cond-true, cond-false}
 use Rattle.times.specs.Order.{StrictOrder}
@@ -74,7 +74,7 @@ module _ {X K : Type 0} (key : X → K) (before : K → K → Bool) (o : StrictO
   sorted_alike (then r q) p = sorted_alike r p ∙ sorted_alike q (pairwise_rearranged Differ (λ x y d e. d (sym e)) r p)
 
   -- an insertion into a list that rises leaves one that rises
-  pub put_rises : (x : X) (ys : List X) → All (Differ x) ys → Pairwise (λ y z. by y z ≡ true) ys → Pairwise (λ y z. by y z ≡ true) (put by x ys)
+  pub put_rises : (x : X) (ys : List X) → AllByRecursion (Differ x) ys → Pairwise (λ y z. by y z ≡ true) ys → Pairwise (λ y z. by y z ≡ true) (put by x ys)
   put_rises x [] d p = (tt, tt)
   put_rises x (y ∷ ys) d p =
       cond_both (by x y) (x ∷ (y ∷ ys)) (y ∷ put by x ys) (Pairwise (λ u v. by u v ≡ true))

@@ -1,6 +1,6 @@
 -- Windows that lie one after the other share no time, and need a time each.
 use Rattle.std.proofs.Common.{◌≡◌, ◌≤◌, Bool, true, List, [], ◌∷◌, length, filter, arith}
-use Rattle.std.specs.List.{AllByRecursion as All}
+use Rattle.std.specs.List.{AllByRecursion}
 use Rattle.std.proofs.ByRecursion.{All-weaker}
 use Rattle.std.proofs.lemmas.Bool.{both_ways}
 use Rattle.queue_rules.specs.declared.firing.Firing.{Firing}
@@ -27,7 +27,7 @@ module _ {A : Type 0} (before : A → A → Bool) (o : StrictOrder before) where
   later_times : (h : A) (ts : List A) (g : Firing A) → before h g.soft ≡ true → Stabbed ts g → Stabbed (filter (before h) ts) g
   later_times h ts g l s = any_kept (before h) (Inside before g.soft g.hard) (λ t i. lt_le before o h g.soft t l i.0) ts s
 
-  pub needs_each : (fs : List (Firing A)) (ts : List A) → Pairwise Over fs → All (Stabbed ts) fs → length fs ≤ length ts
+  pub needs_each : (fs : List (Firing A)) (ts : List A) → Pairwise Over fs → AllByRecursion (Stabbed ts) fs → length fs ≤ length ts
   needs_each [] ts p s = omega arith
   needs_each (f ∷ fs) ts p s =
       let rest = filter (before f.hard) ts in

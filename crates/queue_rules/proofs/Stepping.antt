@@ -1,6 +1,6 @@
 -- An arming and a cancel each take a step, and so does a call that is refused.
 use Rattle.std.proofs.Common.{◌≡◌, ℕ, Bool, true, false, not, ◌&&◌, ◌||◌, eqb, ltb, leb, List, [], length, is_ok, Some, None, filter, Option, sym, refl, ap, ◌∙◌, subst, inl, inr, ⊎_elim, arith}
-use Rattle.std.specs.List.{AllByRecursion as All}
+use Rattle.std.specs.List.{AllByRecursion}
 use Rattle.std.proofs.ByRecursion.{All-weaker, all_kept_by, kept_by_passes}
 use Rattle.std.proofs.lemmas.Bool.{both_ways, cases_Bool, not-true, not_from_false, eqb-true, eqb-false, eq-eqb, ne_eqb, ltb-true, leb-false}
 use Rattle.heap_links.specs.declared.timer.Timer.{Timer}
@@ -43,7 +43,7 @@ module _ {A : Type 0} (before : A → A → Bool) (o : StrictOrder before) where
       (λ p q l. ne_eqb p.number q.number (λ e. omega (arith, ltb-true p.number q.number l))) s.pending h.rising
 
   -- fewer timers, at a clock that no hard time of theirs is before
-  pub standing_kept : (s : State A) (test : Timer A → Bool) (c : A) → Standing before s → All (λ p. before p.hard c ≡ false) (filter test s.pending) →
+  pub standing_kept : (s : State A) (test : Timer A → Bool) (c : A) → Standing before s → AllByRecursion (λ p. before p.hard c ≡ false) (filter test s.pending) →
       Standing before (settle before s (filter test s.pending) c)
   standing_kept s test c h a =
       let short = kept_short test s.pending in
@@ -56,7 +56,7 @@ module _ {A : Type 0} (before : A → A → Bool) (o : StrictOrder before) where
     pub unwoken : woken d ≡ 0
     pub unarmed : course d [] ≡ []
     pub undropped : (n : ℕ) (r : Bool) → dropped_by n d r ≡ r
-    pub untried : All (λ p. tries p.number d ≡ false) s.pending
+    pub untried : AllByRecursion (λ p. tries p.number d ≡ false) s.pending
     pub counted : Counted d
 
   pub idle_step : (s : State A) (d : Deed A) → Standing before s → Idle s d → Step before o s (event d s.clock) s
@@ -73,12 +73,12 @@ module _ {A : Type 0} (before : A → A → Bool) (o : StrictOrder before) where
         now = refl;
         onward = o.irreflexive s.clock;
         treated = all_from_in (Treated before o (event d s.clock) s) s.pending (λ p i. inl (i, quiet p i));
-        fresh = subst (All (λ k. In s.pending k.timer)) (sym idle.unarmed) tt;
+        fresh = subst (AllByRecursion (λ k. In s.pending k.timer)) (sym idle.unarmed) tt;
         origins = all_from_in (Origin before o s (event d s.clock)) s.pending (λ p i. inl (i, quiet p i));
-        logs = subst (All (λ f. Any _ s.pending)) (sym idle.unlogged) tt;
+        logs = subst (AllByRecursion (λ f. Any _ s.pending)) (sym idle.unlogged) tt;
         counts = ap (λ l. length (filter (λ f. f.mark) l)) idle.unlogged ∙ sym idle.unwoken;
         apart = subst (λ l. Pairwise (Over before o) (filter (λ f. f.mark) l)) (sym idle.unlogged) tt;
-        over = subst (λ l. All (λ f. Past before o f.hard s.clock s.pending) (filter (λ f. f.mark) l)) (sym idle.unlogged) tt;
+        over = subst (λ l. AllByRecursion (λ f. Past before o f.hard s.clock s.pending) (filter (λ f. f.mark) l)) (sym idle.unlogged) tt;
         counted = idle.counted;
       }
 
@@ -103,7 +103,7 @@ module _ {A : Type 0} (before : A → A → Bool) (o : StrictOrder before) where
           let d = given_none (leb s.usable (length s.pending)) QueueFull _ c.1 in
           (a.0, b.0, c.0, d.0)
 
-      others : All (λ p. eqb x.number p.number ≡ false) s.pending
+      others : AllByRecursion (λ p. eqb x.number p.number ≡ false) s.pending
       others =
           All-weaker (λ p. eqb p.number x.number ≡ false) (λ p. eqb x.number p.number ≡ false) (λ p. eqb_turn p.number x.number) s.pending
           (none_passes (numbered x.number) s.pending tests.2)

@@ -1,6 +1,6 @@
 -- One wake-up: it logs each ripe timer once and no other, and marks one entry, whose hard time is the wake time.
 use Rattle.std.proofs.Common.{◌≡◌, ℕ, Bool, true, false, not, ◌&&◌, eqb, ltb, List, [], ◌∷◌, map, Some, filter, Option, sym, refl, ap, ◌∙◌, subst, inl, inr, ⊎_elim}
-use Rattle.std.specs.List.{AllByRecursion as All}
+use Rattle.std.specs.List.{AllByRecursion}
 use Rattle.std.proofs.ByRecursion.{All-weaker, All-map, kept_by_passes}
 use Rattle.std.proofs.lemmas.Bool.{both_ways, cases_Bool, and_parts, and_from, eqb-true, eq-eqb, not_from_false, cond-true, cond-false}
 use Rattle.heap_links.specs.declared.timer.Timer.{Timer}
@@ -28,7 +28,7 @@ module _ {A : Type 0} where
       ((x : Timer A) → q x ≡ true → x.number ≡ p.number) → filter q xs ≡ p ∷ []
   only q p [] d i t u = elim i [ ]
   only q p (x ∷ xs) d (inl e) t u =
-      let none : All (λ y. q y ≡ false) xs = All-weaker (λ y. eqb x.number y.number ≡ false) (λ y. q y ≡ false)
+      let none : AllByRecursion (λ y. q y ≡ false) xs = All-weaker (λ y. eqb x.number y.number ≡ false) (λ y. q y ≡ false)
       (λ y n. ⊎_elim (λ k. absurd (both_ways (eqb x.number y.number) n (eq-eqb x.number y.number (ap (λ z. z.number) e ∙ sym (u y k))))) (λ k. k) (cases_Bool (q y)))
       xs d.0 in
       cond-true (q x) (x ∷ filter q xs) (filter q xs) (ap q e ∙ t) ∙ ap (λ l. x ∷ l) (none_kept q xs none) ∙ ap (λ y. y ∷ []) e
@@ -58,7 +58,7 @@ module _ {A : Type 0} (before : A → A → Bool) (o : StrictOrder before) where
   -- w is the least hard time
   pub record Next (xs : List (Timer A)) (w : A) : Type 0 where
     pub stands : Any (λ x. x.hard ≡ w) xs
-    pub bounds : All (λ x. before x.hard w ≡ false) xs
+    pub bounds : AllByRecursion (λ x. before x.hard w ≡ false) xs
 
   pub next_hard : (xs : List (Timer A)) (w : A) → least_hard before xs ≡ Some w → Next xs w
   next_hard xs w e =
@@ -70,7 +70,7 @@ module _ {A : Type 0} (before : A → A → Bool) (o : StrictOrder before) where
 
   -- no soft time is after its hard time
   abbrev pub Proper : List (Timer A) → Type 0
-  Proper = All (λ x. before x.hard x.soft ≡ false)
+  Proper = AllByRecursion (λ x. before x.hard x.soft ≡ false)
 
   pub ends_ripe : (w : A) (x : Timer A) → before x.hard x.soft ≡ false → x.hard ≡ w → ripe before w x ≡ true
   ends_ripe w x p e = not_from_false (before w x.soft) (subst (λ h. before h x.soft ≡ false) e p)
@@ -110,7 +110,7 @@ module _ {A : Type 0} (before : A → A → Bool) (o : StrictOrder before) where
         awake (kept_by_passes (ripe before w) xs)))
         (rearranged_none)
 
-    pub logs_ripe : All (λ f. Any (λ p. From p f) xs) (wake_up before w xs)
+    pub logs_ripe : AllByRecursion (λ f. Any (λ p. From p f) xs) (wake_up before w xs)
     logs_ripe =
         let P : Firing A → Type 0 = λ f. Any (λ p. From p f) xs in
         let Q : Timer A → Type 0 = λ x. P (entry w m x) in

@@ -1,6 +1,6 @@
 -- The wake-ups of an advance, one after the other.
 use Rattle.std.proofs.Common.{◌≡◌, Bool, true, false, not, ◌&&◌, ◌⊎◌, List, [], ◌∷◌, ◌++◌, map, filter, sym, refl, ap, ◌∙◌, subst, inl, inr, ⊎_elim}
-use Rattle.std.specs.List.{AllByRecursion as All}
+use Rattle.std.specs.List.{AllByRecursion}
 use Rattle.std.proofs.lemmas.List.Elements.{filter-append}
 use Rattle.std.proofs.ByRecursion.{All-weaker, All-append, kept_by_passes, all_kept_by}
 use Rattle.std.proofs.lemmas.Bool.{both_ways, cases_Bool, not-true, not-false, not_from_false}
@@ -23,19 +23,19 @@ module _ {A : Type 0} (before : A → A → Bool) (o : StrictOrder before) where
   -- a is over: it is before the time t, and before each soft time of qs
   pub record Past (a t : A) (qs : List (Timer A)) : Type 0 where
     pub clock : before a t ≡ true
-    pub softs : All (λ q. before a q.soft ≡ true) qs
+    pub softs : AllByRecursion (λ q. before a q.soft ≡ true) qs
 
   abbrev pub Logs : List (Timer A) → List (Firing A) → Type 0
-  Logs qs = All (λ f. Any (λ q. From q f) qs)
+  Logs qs = AllByRecursion (λ f. Any (λ q. From q f) qs)
 
   -- what is logged of timers with later soft times has later soft times
-  pub logs_after : (a : A) (qs : List (Timer A)) (fs : List (Firing A)) → All (λ q. before a q.soft ≡ true) qs → Logs qs fs →
-      All (λ f. before a f.soft ≡ true) fs
+  pub logs_after : (a : A) (qs : List (Timer A)) (fs : List (Firing A)) → AllByRecursion (λ q. before a q.soft ≡ true) qs → Logs qs fs →
+      AllByRecursion (λ f. before a f.soft ≡ true) fs
   logs_after a qs fs l g =
       All-weaker (λ f. Any (λ q. From q f) qs) (λ f. before a f.soft ≡ true)
       (λ f i. any_so (before a f.soft ≡ true) (λ q h. h) qs (any_with (λ q b h. subst (λ s. before a s ≡ true) (sym h.soft) b) qs l i)) fs g
 
-  pub logs_not : (p : Timer A) (qs : List (Timer A)) (fs : List (Firing A)) → All (λ q. before p.soft q.soft ≡ true) qs → Logs qs fs →
+  pub logs_not : (p : Timer A) (qs : List (Timer A)) (fs : List (Firing A)) → AllByRecursion (λ q. before p.soft q.soft ≡ true) qs → Logs qs fs →
       filter (of before p) fs ≡ []
   logs_not p qs fs l g =
       none_kept (of before p) fs
@@ -64,14 +64,14 @@ module _ {A : Type 0} (before : A → A → Bool) (o : StrictOrder before) where
   pub record Walked (t : A) (xs : List (Timer A)) (r : Served A) : Type 0 where
     pub test : Timer A → Bool
     pub left : r.pending ≡ filter test xs
-    pub ahead : All (λ q. before q.hard t ≡ false) r.pending
+    pub ahead : AllByRecursion (λ q. before q.hard t ≡ false) r.pending
     pub logs : Logs xs r.entries
-    pub fates : All (Fared t r.pending r.entries) xs
+    pub fates : AllByRecursion (Fared t r.pending r.entries) xs
     pub times : wake_times r.entries ≡ r.wakes
     pub apart : Pairwise (Over before o) (marks r.entries)
-    pub over : All (λ f. Past f.hard t r.pending) (marks r.entries)
+    pub over : AllByRecursion (λ f. Past f.hard t r.pending) (marks r.entries)
 
-  walked_still : (t : A) (xs : List (Timer A)) → All (λ q. before q.hard t ≡ false) xs → Walked t xs (still xs)
+  walked_still : (t : A) (xs : List (Timer A)) → AllByRecursion (λ q. before q.hard t ≡ false) xs → Walked t xs (still xs)
   walked_still t xs a = record {
     test = λ _. true;
     left = sym (kept_all xs);
@@ -88,19 +88,19 @@ module _ {A : Type 0} (before : A → A → Bool) (o : StrictOrder before) where
     abbrev late : List (Timer A)
     late = spared before w xs
 
-    late_softs : All (λ q. before w q.soft ≡ true) late
+    late_softs : AllByRecursion (λ q. before w q.soft ≡ true) late
     late_softs =
         All-weaker (λ q. not (ripe before w q) ≡ true) (λ q. before w q.soft ≡ true)
         (λ q h. not-false (before w q.soft) (not-true (ripe before w q) h)) late (kept_by_passes (λ q. not (ripe before w q)) xs)
 
-    late_after : (a : A) → before w a ≡ false → All (λ q. before a q.soft ≡ true) late
+    late_after : (a : A) → before w a ≡ false → AllByRecursion (λ q. before a q.soft ≡ true) late
     late_after a h = All-weaker (λ q. before w q.soft ≡ true) (λ q. before a q.soft ≡ true) (λ q l. le_lt before o a w q.soft h l) late late_softs
 
     -- a time that is not after w is over
     over_now : (a : A) → before w a ≡ false → Past a t r.pending
     over_now a h = record {
       clock = le_lt before o a w t h soon;
-      softs = subst (All (λ q. before a q.soft ≡ true)) (sym rest.left) (all_kept_by rest.test (λ q. before a q.soft ≡ true) late (late_after a h));
+      softs = subst (AllByRecursion (λ q. before a q.soft ≡ true)) (sym rest.left) (all_kept_by rest.test (λ q. before a q.soft ≡ true) late (late_after a h));
     }
 
     joined : (g : Firing A → Bool) (us vs : List (Firing A)) → filter g (wake_up before w xs) ≡ us → filter g r.entries ≡ vs →
@@ -144,11 +144,11 @@ module _ {A : Type 0} (before : A → A → Bool) (o : StrictOrder before) where
               (λ h. inr (fires p i h)) (λ h. waits p i h) (cases_Bool (ripe before w p)));
           times = ap (map (λ f. f.wake)) e ∙ ap (λ ws. w ∷ ws) rest.times;
           apart = subst (Pairwise (Over before o)) (sym e) (
-            subst (λ h. All (λ g. before h g.soft ≡ true) (marks r.entries)) at_w
+            subst (λ h. AllByRecursion (λ g. before h g.soft ≡ true) (marks r.entries)) at_w
                 (all_kept_by (λ f. f.mark) (λ g. before w g.soft ≡ true) r.entries (logs_after w late r.entries late_softs rest.logs)),
             rest.apart,
           );
-          over = subst (All (λ f. Past f.hard t r.pending)) (sym e)
+          over = subst (AllByRecursion (λ f. Past f.hard t r.pending)) (sym e)
               (subst (λ h. Past h t r.pending) at_w (over_now w (o.irreflexive w)), rest.over);
         }
 

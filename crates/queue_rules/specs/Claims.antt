@@ -5,7 +5,7 @@
 --     NothingElseLogged    each entry is the one firing so far of a timer that was armed before and not cancelled since
 --     Counted                an advance answered as many firings as it wrote entries; a refused one woke, fired and wrote nothing
 use Rattle.std.specs.Prelude.{◌≡◌, ℕ, ◌≤◌, Bool, true, false, List, [], ◌∷◌, ◌++◌, length, filter}
-use Rattle.std.specs.List.{AllByRecursion as All}
+use Rattle.std.specs.List.{AllByRecursion}
 use Rattle.heap_links.specs.declared.timer.Timer.{Timer}
 use Rattle.queue_rules.specs.declared.firing.Firing.{Firing}
 use Rattle.queue_rules.specs.Lists.{Any, Pairwise}
@@ -35,12 +35,12 @@ module _ {A : Type 0} (before : A → A → Bool) where
 
   abbrev pub NoTimerMissed : A → List (Event A) → Type 0
   NoTimerMissed c es =
-      All (λ k. before k.timer.hard (clock_after c es) ≡ true → dropped k.timer.number k.later ≡ false → FiredOnce k) (courses es)
+      AllByRecursion (λ k. before k.timer.hard (clock_after c es) ≡ true → dropped k.timer.number k.later ≡ false → FiredOnce k) (courses es)
 
   abbrev pub NoShorterList : A → List (Event A) → Type 0
   NoShorterList c es =
       (times : List A) →
-      All (λ k. binds before (clock_after c es) k ≡ true → Any (Meets k.timer) times) (courses es) →
+      AllByRecursion (λ k. binds before (clock_after c es) k ≡ true → Any (Meets k.timer) times) (courses es) →
       wake_ups es ≤ length times
 
   -- no time lies in both windows
@@ -56,14 +56,14 @@ module _ {A : Type 0} (before : A → A → Bool) where
 
   abbrev pub NothingElseLogged : List (Event A) → Type 0
   NothingElseLogged es =
-      EachEvent (λ earlier e. All (λ f. Any (DueOnce (logged e.deed) f) (courses earlier)) (logged e.deed)) [] es
+      EachEvent (λ earlier e. AllByRecursion (λ f. Any (DueOnce (logged e.deed) f) (courses earlier)) (logged e.deed)) [] es
 
   pub record Claims (c : A) (es : List (Event A)) : Type 0 where
     pub no_timer_missed : NoTimerMissed c es
     pub no_shorter_list : NoShorterList c es
     pub certificate : Certificate es
     pub nothing_else_logged : NothingElseLogged es
-    pub counted : All (λ e. Counted e.deed) es
+    pub counted : AllByRecursion (λ e. Counted e.deed) es
 
   -- the claims hold of every history that a list of calls leaves
   abbrev pub ClaimsHold : Type 0

@@ -6,7 +6,7 @@
 --     least lt xs                   the least element by lt, if there is one
 --     put lt x xs, sorted lt xs     x put before the first element that it is less than; insertion sort
 use Rattle.std.specs.Prelude.{Bool, false, cond, ◌||◌, ◌⊎◌, List, [], ◌∷◌, Some, None, Option}
-use Rattle.std.specs.List.{AllByRecursion as All}
+use Rattle.std.specs.List.{AllByRecursion}
 
 abbrev pub Any : {X : Type 0} → (X → Type 0) → List X → Type 0
 Any P [] = ⊥
@@ -14,7 +14,7 @@ Any P (x ∷ xs) = P x ⊎ Any P xs
 
 abbrev pub Pairwise : {X : Type 0} → (X → X → Type 0) → List X → Type 0
 Pairwise R [] = Unit {0}
-Pairwise R (x ∷ xs) = All (R x) xs × Pairwise R xs
+Pairwise R (x ∷ xs) = AllByRecursion (R x) xs × Pairwise R xs
 
 pub data Rearranged {X : Type 0} : List X → List X → Type 0 where
   none : Rearranged [] []

@@ -3,7 +3,7 @@
 --                         time, and its hard time not before the clock; and the alarm is due at the least hard time
 --     StatesStand        every state that a list of calls leaves is like that, over as many usable slots as at the start
 use Rattle.std.specs.Prelude.{◌≡◌, ℕ, ◌≤◌, Bool, true, false, List, length}
-use Rattle.std.specs.List.{AllByRecursion as All}
+use Rattle.std.specs.List.{AllByRecursion}
 use Rattle.queue_rules.specs.Lists.{Pairwise}
 use Rattle.queue_rules.specs.Timers.{by_number, least_hard}
 use Rattle.queue_rules.specs.Calls.{State}
@@ -13,8 +13,8 @@ module _ {A : Type 0} (before : A → A → Bool) where
   pub record Standing (s : State A) : Type 0 where
     pub rising : Pairwise (λ x y. by_number x y ≡ true) s.pending
     pub few : length s.pending ≤ s.usable
-    pub proper : All (λ x. before x.hard x.soft ≡ false) s.pending
-    pub ahead : All (λ x. before x.hard s.clock ≡ false) s.pending
+    pub proper : AllByRecursion (λ x. before x.hard x.soft ≡ false) s.pending
+    pub ahead : AllByRecursion (λ x. before x.hard s.clock ≡ false) s.pending
     pub due : s.due ≡ least_hard before s.pending
 
   abbrev pub StatesStand : Type 0

@@ -10,7 +10,7 @@
 --     walk t xs           the wake-ups of an advance to t: the same with room for as many as there are timers
 --     WalkGoesOn        that is room enough: an advance is nothing, or a wake-up and then an advance over what it spares
 use Rattle.std.specs.Prelude.{◌≡◌, ℕ, zero, suc, Bool, false, cond, not, List, [], ◌∷◌, ◌++◌, map, length, Some, None, filter, Option, ◌==◌, nat_lt}
-use Rattle.std.specs.List.{AllByRecursion as All}
+use Rattle.std.specs.List.{AllByRecursion}
 use Rattle.heap_links.specs.declared.timer.Timer.{Timer}
 use Rattle.queue_rules.specs.declared.firing.Firing.{Firing}
 use Rattle.queue_rules.specs.Lists.{least, sorted}
@@ -62,5 +62,5 @@ module _ {A : Type 0} (before : A → A → Bool) where
 
   abbrev pub WalkGoesOn : Type 0
   WalkGoesOn =
-      (t : A) (xs : List (Timer A)) → All (λ x. before x.hard x.soft ≡ false) xs →
+      (t : A) (xs : List (Timer A)) → AllByRecursion (λ x. before x.hard x.soft ≡ false) xs →
       walk t xs ≡ serve_from (walk t) t xs (least_hard before xs)

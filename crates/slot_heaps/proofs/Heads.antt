@@ -1,6 +1,6 @@
 -- The top of a heap comes before all of it, and what holds of each pending slot holds of each listed timer.
 use Rattle.std.proofs.Common.{◌≡◌, ℕ, zero, suc, ◌-◌, ◌/◌, ◌<◌, ◌≤◌, Bool, true, false, cond, ◌&&◌, eqb, ltb, List, [], ◌∷◌, length, get_or, Some, filter, sym, refl, ap, ◌∙◌, ⊎_elim, arith}
-use Rattle.std.specs.List.{AllByRecursion as All, slice_get}
+use Rattle.std.specs.List.{AllByRecursion, slice_get}
 use Rattle.std.proofs.lemmas.Bool.{cases_eq, ltb-true, ltb-false, eqb-true, and_parts, and_cases}
 use Rattle.heap_links.specs.declared.slots.Link.{Link}
 use Rattle.heap_links.specs.declared.slots.Slot.{Slot}
@@ -31,11 +31,11 @@ module _ (lt : ℕ → ℕ → Bool) (r : Ranks lt) (a : ℕ → ℕ) (n : ℕ) 
   top_first k l = climbs k k (omega arith) l
 
 module _ {A : Type 0} where
-  one_more : (P : Timer A → Type 0) (b : Bool) (s : Slot A) (ss : List (Slot A)) → (b ≡ true → P s.timer) → All P (timers ss) → All P (timers (cond b (s ∷ ss) ss))
+  one_more : (P : Timer A → Type 0) (b : Bool) (s : Slot A) (ss : List (Slot A)) → (b ≡ true → P s.timer) → AllByRecursion P (timers ss) → AllByRecursion P (timers (cond b (s ∷ ss) ss))
   one_more P true s ss p ps = (p refl, ps)
   one_more P false s ss p ps = ps
 
-  pub listed_all : (P : Timer A → Type 0) (n : ℕ) (xs : List (Slot A)) → ((i : ℕ) (x : Timer A) → Holds n xs i x → P x) → All P (listed n xs)
+  pub listed_all : (P : Timer A → Type 0) (n : ℕ) (xs : List (Slot A)) → ((i : ℕ) (x : Timer A) → Holds n xs i x → P x) → AllByRecursion P (listed n xs)
   listed_all P n [] f = tt
   listed_all P n (s ∷ xs) f =
       one_more P (ltb s.hard.place n) s (filter (λ s. ltb s.hard.place n) xs)

@@ -5,7 +5,7 @@
 --     NoneByThen               if the first by soft time is after w, every soft time is
 --     Found number n xs r        r is a pending slot with that number, or none if no pending timer has it
 use Rattle.std.specs.Prelude.{◌≡◌, ℕ, ◌<◌, ◌≤◌, Bool, true, false, List, length, Some, None, Option, ◌==◌}
-use Rattle.std.specs.List.{AllByRecursion as All, slice_get}
+use Rattle.std.specs.List.{AllByRecursion, slice_get}
 use Rattle.heap_links.specs.declared.slots.Link.{Link}
 use Rattle.heap_links.specs.declared.slots.Slot.{Slot}
 use Rattle.heap_links.specs.declared.timer.Timer.{Timer}
@@ -22,7 +22,7 @@ pub record Holds {A : Type 0} (n : ℕ) (xs : List (Slot A)) (i : ℕ) (x : Time
 
 pub record First {A : Type 0} (before : A → A → Bool) (time : Timer A → A) (x : Timer A) (xs : List (Timer A)) : Type 0 where
   pub stands : Among x xs
-  pub least : All (λ y. sooner before time y x ≡ false) xs
+  pub least : AllByRecursion (λ y. sooner before time y x ≡ false) xs
 
 module _ {A : Type 0} (before : A → A → Bool) (time : Timer A → A) (link : Slot A → Link) where
   abbrev pub Top : ℕ → List (Slot A) → Option (ℕ × Timer A) → Type 0
@@ -30,16 +30,16 @@ module _ {A : Type 0} (before : A → A → Bool) (time : Timer A → A) (link :
   Top n xs (Some r) = Holds n xs r.0 r.1 × (r.0 ≡ slot_at link xs 0) × (Heaped before time link xs n → First before time r.1 (listed n xs))
 
 abbrev pub Found : {A : Type 0} → ℕ → ℕ → List (Slot A) → Option ℕ → Type 0
-Found {A} number n xs None = All (λ x. (x.number == number) ≡ false) (listed n xs)
+Found {A} number n xs None = AllByRecursion (λ x. (x.number == number) ≡ false) (listed n xs)
 Found {A} number n xs (Some i) = (x : Timer A) × Holds n xs i x × (x.number ≡ number) × Among x (listed n xs)
 
 module _ {A : Type 0} (before : A → A → Bool) where
   abbrev pub FirstIsLeast : Type 0
   FirstIsLeast =
       (time : Timer A → A) (x : Timer A) (xs : List (Timer A)) → First before time x xs →
-      All (λ y. (before (time y) (time x) ≡ false) × (time y ≡ time x → x.number ≤ y.number)) xs
+      AllByRecursion (λ y. (before (time y) (time x) ≡ false) × (time y ≡ time x → x.number ≤ y.number)) xs
 
   abbrev pub NoneByThen : Type 0
   NoneByThen =
       (time : Timer A → A) (x : Timer A) (xs : List (Timer A)) (w : A) → First before time x xs →
-      before w (time x) ≡ true → All (λ y. before w (time y) ≡ true) xs
+      before w (time x) ≡ true → AllByRecursion (λ y. before w (time y) ≡ true) xs

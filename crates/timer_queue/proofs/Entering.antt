@@ -1,6 +1,6 @@
 -- A timer that passes the tests and enters the slots is armed.
 use Rattle.std.proofs.Common.{◌≡◌, ℕ, Bool, false, not, List, [], ◌∷◌, None, Ok, Option, sym, ap, ◌∙◌, subst, ap₂}
-use Rattle.std.specs.List.{AllByRecursion as All}
+use Rattle.std.specs.List.{AllByRecursion}
 use Rattle.std.proofs.lemmas.Bool.{not-false}
 use Rattle.alarms.specs.Meaning.{NotPast}
 use Rattle.heap_links.specs.declared.timer.Timer.{Timer}
@@ -32,7 +32,7 @@ module _ {A : Type 0} (before : A → A → Bool) (o : StrictOrder before) where
       let g = given_none (not (same_due before d (least_hard before xs))) AlarmMoved f e in
       (due_as_left before o d (least_hard before xs) (not-false (same_due before d (least_hard before xs)) g.0), g.1)
 
-  pub still_ahead : (xs : List (Timer A)) (c : A) (d : Option A) → d ≡ least_hard before xs → NotPast before c d → All (λ x. before x.hard c ≡ false) xs
+  pub still_ahead : (xs : List (Timer A)) (c : A) (d : Option A) → d ≡ least_hard before xs → NotPast before c d → AllByRecursion (λ x. before x.hard c ≡ false) xs
   still_ahead xs c d e n = ahead_all before o c xs (subst (NotPast before c) e n)
 
   module _ (u : ℕ) (xs ys : List (Timer A)) (c : A) (d : Option A) (x : Timer A) (free : arm_refusal before u xs c d x ≡ None)

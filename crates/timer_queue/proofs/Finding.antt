@@ -1,6 +1,6 @@
 -- A search by number finds a slot exactly if a pending timer has that number.
 use Rattle.std.proofs.Common.{◌≡◌, ℕ, Bool, false, ◌||◌, List, [], ◌∷◌, is_some, Some, None, Option, sym, refl, ap, ◌∙◌, eq-eqb}
-use Rattle.std.specs.List.{AllByRecursion as All}
+use Rattle.std.specs.List.{AllByRecursion}
 use Rattle.heap_links.specs.declared.slots.Slot.{Slot}
 use Rattle.slot_heaps.specs.Firsts.{Found}
 use Rattle.slot_heaps.specs.Pending.{listed}
@@ -9,7 +9,7 @@ use Rattle.queue_rules.specs.Timers.{numbered}
 use Rattle.timer_queue.proofs.Inserting.{inserted_rearranged}
 use Rattle.queue_rules.proofs.Numbering.{passes_rearranged}
 
-passes_none : {X : Type 0} (p : X → Bool) (xs : List X) → All (λ x. p x ≡ false) xs → passes p xs ≡ false
+passes_none : {X : Type 0} (p : X → Bool) (xs : List X) → AllByRecursion (λ x. p x ≡ false) xs → passes p xs ≡ false
 passes_none p [] h = refl
 passes_none p (x ∷ xs) h = ap (λ b. b || passes p xs) h.0 ∙ passes_none p xs h.1
 

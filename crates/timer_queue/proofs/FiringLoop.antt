@@ -1,6 +1,6 @@
 -- The loop of a wake-up: entries so far, and the timers that are left.
 use Rattle.std.proofs.Common.{◌≡◌, ℕ, ◌+◌, ◌<◌, Bool, false, ltb, List, [], ◌∷◌, ◌++◌, map, length, set, Some, sym, ap, ◌∙◌, arith}
-use Rattle.std.specs.List.{AllByRecursion as All}
+use Rattle.std.specs.List.{AllByRecursion}
 use Rattle.std.proofs.lemmas.List.{length_push}
 use Rattle.std.proofs.lemmas.Bool.{not_from_false, le-ltb}
 use Rattle.heap_links.specs.declared.slots.Slot.{Slot}
@@ -47,7 +47,7 @@ module _ {A : Type 0} (before : A → A → Bool) (o : StrictOrder before) (w : 
       let r = inserted_rearranged x zs ys i in
       let n = length_rearranged r in
       let e : Firing A = entry w (Some m) x in
-      let ahead : All (λ y. by_soft before y x ≡ false) zs = (all_rearranged (λ y. by_soft before y x ≡ false) r first.least).1 in
+      let ahead : AllByRecursion (λ y. by_soft before y x ≡ false) zs = (all_rearranged (λ y. by_soft before y x ≡ false) r first.least).1 in
       record {
         entries = f.entries ++ e ∷ [];
         log = ap (λ l. set l next e) f.log ∙ log_more at next old f.entries e f.place h;
@@ -57,7 +57,7 @@ module _ {A : Type 0} (before : A → A → Bool) (o : StrictOrder before) (w : 
         distinct = (distinct_rearranged r f.distinct).1;
       }
 
-  pub fire_ends : (new : List (Firing A)) (next : ℕ) (ys : List (Timer A)) → FiringOn new next ys → All (λ y. ripe before w y ≡ false) ys → Fired before w m xs ys at old new
+  pub fire_ends : (new : List (Firing A)) (next : ℕ) (ys : List (Timer A)) → FiringOn new next ys → AllByRecursion (λ y. ripe before w y ≡ false) ys → Fired before w m xs ys at old new
   fire_ends new next ys f h =
       let p = popped_all before o w (Some m) xs f.entries ys f.popped h in
       record {

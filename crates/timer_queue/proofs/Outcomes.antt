@@ -1,6 +1,6 @@
 -- From timers that lie in any order to the outcomes of the calls.
 use Rattle.std.proofs.Common.{◌≡◌, ℕ, Bool, true, false, not, eqb, ltb, leb, List, [], ◌∷◌, map, length, Some, None, Ok, Err, filter, Option, sym, refl, ap, ◌∙◌, subst, ap₂}
-use Rattle.std.specs.List.{AllByRecursion as All}
+use Rattle.std.specs.List.{AllByRecursion}
 use Rattle.std.proofs.ByRecursion.{All-weaker}
 use Rattle.std.proofs.lemmas.Bool.{false≢true}
 use Rattle.heap_links.specs.declared.timer.Timer.{Timer}
@@ -119,14 +119,14 @@ module _ {A : Type 0} (before : A → A → Bool) (o : StrictOrder before) where
         ∙ ap₂ (λ l h. record { answer = Ok (n, length fs); left = record { usable = u; pending = l; clock = t; due = h }; logged = fs }) pending due
 
   -- no pending hard time is before the clock, if the least is not
-  pub ahead_all : (c : A) (xs : List (Timer A)) → NotPast before c (least_hard before xs) → All (λ x. before x.hard c ≡ false) xs
+  pub ahead_all : (c : A) (xs : List (Timer A)) → NotPast before c (least_hard before xs) → AllByRecursion (λ x. before x.hard c ≡ false) xs
   ahead_all c xs h = by (least_hard before xs) refl h
     where
-      by : (l : Option A) → least_hard before xs ≡ l → NotPast before c l → All (λ x. before x.hard c ≡ false) xs
-      by None e n = map_all (λ x. x.hard) (λ a. before a c ≡ false) xs (subst (All (λ a. before a c ≡ false)) (sym (least_none before o (map (λ x. x.hard) xs) e)) tt)
+      by : (l : Option A) → least_hard before xs ≡ l → NotPast before c l → AllByRecursion (λ x. before x.hard c ≡ false) xs
+      by None e n = map_all (λ x. x.hard) (λ a. before a c ≡ false) xs (subst (AllByRecursion (λ a. before a c ≡ false)) (sym (least_none before o (map (λ x. x.hard) xs) e)) tt)
       by (Some w) e n = All-weaker (λ x. before x.hard w ≡ false) (λ x. before x.hard c ≡ false) (λ x b. le_le before o c w x.hard n b) xs (next_hard before o xs w e).bounds
 
-  pub all_ahead : (c : A) (xs : List (Timer A)) → All (λ x. before x.hard c ≡ false) xs → NotPast before c (least_hard before xs)
+  pub all_ahead : (c : A) (xs : List (Timer A)) → AllByRecursion (λ x. before x.hard c ≡ false) xs → NotPast before c (least_hard before xs)
   all_ahead c xs h = by (least_hard before xs) refl
     where
       by : (l : Option A) → least_hard before xs ≡ l → NotPast before c l

@@ -1,6 +1,6 @@
 -- A wake-up, one timer at a time: the ripe timer that comes first by soft time and number, again and again.
 use Rattle.std.proofs.Common.{◌≡◌, ℕ, Bool, true, false, not, eqb, List, [], ◌∷◌, ◌++◌, map, filter, Option, sym, refl, ap, ◌∙◌, subst, ⊎_elim}
-use Rattle.std.specs.List.{AllByRecursion as All}
+use Rattle.std.specs.List.{AllByRecursion}
 use Rattle.std.proofs.ByRecursion.{All-weaker, all_kept_by}
 use Rattle.std.proofs.lemmas.List.{append_assoc, append-nil}
 use Rattle.std.proofs.lemmas.Bool.{cases_Bool, cond-true, cond-false, not_from_true, not_from_false}
@@ -17,7 +17,7 @@ use Rattle.queue_rules.proofs.Sorting.{sorted_alike, sorted_rearranged}
 use Rattle.queue_rules.proofs.Stepping.{eqb_turn}
 
 -- what comes before all others is put in front
-put_first : {X : Type 0} (lt : X → X → Bool) (x : X) (ys : List X) → All (λ y. lt x y ≡ true) ys → put lt x ys ≡ x ∷ ys
+put_first : {X : Type 0} (lt : X → X → Bool) (x : X) (ys : List X) → AllByRecursion (λ y. lt x y ≡ true) ys → put lt x ys ≡ x ∷ ys
 put_first lt x [] h = refl
 put_first lt x (y ∷ ys) h = cond-true (lt x y) _ _ h.0
 
@@ -35,13 +35,13 @@ module _ {A : Type 0} (before : A → A → Bool) (o : StrictOrder before) (w : 
       (λ f. absurd ((keys_differ before o (x ∷ (y ∷ [])) ((d, tt), (tt, tt))).0.0 ((lex_order before o).connected (key before o x) (key before o y) f h)))
       (cases_Bool (by_soft before x y))
 
-  all_precede : (x : Timer A) (ys : List (Timer A)) → All (λ y. eqb x.number y.number ≡ false) ys → All (λ y. by_soft before y x ≡ false) ys →
-      All (λ y. by_soft before x y ≡ true) ys
+  all_precede : (x : Timer A) (ys : List (Timer A)) → AllByRecursion (λ y. eqb x.number y.number ≡ false) ys → AllByRecursion (λ y. by_soft before y x ≡ false) ys →
+      AllByRecursion (λ y. by_soft before x y ≡ true) ys
   all_precede x [] d h = tt
   all_precede x (y ∷ ys) d h = (precedes x y d.0 h.0, all_precede x ys d.1 h.1)
 
   -- the ripe timers in the order of the log, where x is ripe and comes first
-  pub pop_first : (xs ys : List (Timer A)) (x : Timer A) → Rearranged xs (x ∷ ys) → Distinct xs → ripe before w x ≡ true → All (λ y. by_soft before y x ≡ false) ys →
+  pub pop_first : (xs ys : List (Timer A)) (x : Timer A) → Rearranged xs (x ∷ ys) → Distinct xs → ripe before w x ≡ true → AllByRecursion (λ y. by_soft before y x ≡ false) ys →
       sorted (by_soft before) (filter (ripe before w) xs) ≡ x ∷ sorted (by_soft before) (filter (ripe before w) ys)
   pop_first xs ys x r d h first =
       let e : Distinct (x ∷ ys) = pairwise_rearranged _ (λ a b n. eqb_turn a.number b.number n) r d in
@@ -59,7 +59,7 @@ module _ {A : Type 0} (before : A → A → Bool) (o : StrictOrder before) (w : 
       subst (Rearranged (filter p xs)) (kept_no p x ys (not_from_true (ripe before w x) h)) (kept_rearranged p r)
 
   -- no timer is ripe any more
-  pub pop_ends : (xs : List (Timer A)) → All (λ x. ripe before w x ≡ false) xs → (filter (ripe before w) xs ≡ []) × (spared before w xs ≡ xs)
+  pub pop_ends : (xs : List (Timer A)) → AllByRecursion (λ x. ripe before w x ≡ false) xs → (filter (ripe before w) xs ≡ []) × (spared before w xs ≡ xs)
   pop_ends xs h = (
     none_kept (ripe before w) xs h,
     kept_like (λ x. not (ripe before w x)) (λ _. true) xs (All-weaker (λ x. ripe before w x ≡ false) _ (λ x f. not_from_false (ripe before w x) f) xs h) ∙ kept_all xs,
@@ -74,7 +74,7 @@ module _ {A : Type 0} (before : A → A → Bool) (o : StrictOrder before) (w : 
   popped_none m xs = record { entries = refl; spares = rearranged_itself (spared before w xs) }
 
   pub popped_more : (m : Option ℕ) (xs : List (Timer A)) (fs : List (Firing A)) (ys zs : List (Timer A)) (x : Timer A) →
-      Popped m xs fs ys → Rearranged ys (x ∷ zs) → Distinct ys → ripe before w x ≡ true → All (λ y. by_soft before y x ≡ false) zs →
+      Popped m xs fs ys → Rearranged ys (x ∷ zs) → Distinct ys → ripe before w x ≡ true → AllByRecursion (λ y. by_soft before y x ≡ false) zs →
       Popped m xs (fs ++ entry w m x ∷ []) zs
   popped_more m xs fs ys zs x p r d h first = record {
     entries =
@@ -85,7 +85,7 @@ module _ {A : Type 0} (before : A → A → Bool) (o : StrictOrder before) (w : 
   }
 
   pub popped_all : (m : Option ℕ) (xs : List (Timer A)) (fs : List (Firing A)) (ys : List (Timer A)) →
-      Popped m xs fs ys → All (λ y. ripe before w y ≡ false) ys →
+      Popped m xs fs ys → AllByRecursion (λ y. ripe before w y ≡ false) ys →
       (fs ≡ map (entry w m) (sorted (by_soft before) (filter (ripe before w) xs))) × Rearranged (spared before w xs) ys
   popped_all m xs fs ys p h =
       let e = pop_ends ys h in (

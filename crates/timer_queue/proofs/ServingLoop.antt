@@ -1,6 +1,6 @@
 -- The loop of an advance: wake-ups so far, and what is left.
 use Rattle.std.proofs.Common.{◌≡◌, ℕ, ◌+◌, ◌<◌, ◌≤◌, Bool, true, false, not, List, [], ◌++◌, map, length, filter, Option, sym, ap, ◌∙◌, subst, arith}
-use Rattle.std.specs.List.{AllByRecursion as All}
+use Rattle.std.specs.List.{AllByRecursion}
 use Rattle.std.proofs.ByRecursion.{All-weaker, all_kept_by, kept_by_passes}
 use Rattle.std.proofs.lemmas.List.{length-append}
 use Rattle.std.proofs.lemmas.Bool.{not-true, not-false, not_from_true}
@@ -58,7 +58,7 @@ module _ {A : Type 0} (before : A → A → Bool) (o : StrictOrder before) (t : 
       let e = first_hard before o x ys f in
       cc
 
-  spared_ahead : (w : A) (ys : List (Timer A)) → Proper before o ys → All (λ x. before x.hard w ≡ false) (spared before w ys)
+  spared_ahead : (w : A) (ys : List (Timer A)) → Proper before o ys → AllByRecursion (λ x. before x.hard w ≡ false) (spared before w ys)
   spared_ahead w ys p =
       let q : Timer A → Bool = λ x. not (ripe before w x) in
       All-weaker (λ x. (before x.hard x.soft ≡ false) × (q x ≡ true)) (λ x. before x.hard w ≡ false)
@@ -72,7 +72,7 @@ module _ {A : Type 0} (before : A → A → Bool) (o : StrictOrder before) (t : 
     pub wake_ahead : NotPast before c' (least_hard before zs)
     wake_ahead =
         all_ahead before o c' zs
-        (subst (λ a. All (λ y. before y.hard a ≡ false) zs) (sym (r.clock ∙ rung_at n new ys c d c' d' x s r f))
+        (subst (λ a. AllByRecursion (λ y. before y.hard a ≡ false) zs) (sym (r.clock ∙ rung_at n new ys c d c' d' x s r f))
         (all_rearranged (λ y. before y.hard x.hard ≡ false) g.rest (spared_ahead x.hard ys s.proper)))
 
     -- some timer fired

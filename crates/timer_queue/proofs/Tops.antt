@@ -1,6 +1,6 @@
 -- What the first timer of each heap says of a wake-up.
 use Rattle.std.proofs.Common.{◌≡◌, Bool, true, false, ltb, List, map, Some, filter, refl, ap, ◌∙◌, inl}
-use Rattle.std.specs.List.{AllByRecursion as All}
+use Rattle.std.specs.List.{AllByRecursion}
 use Rattle.std.proofs.ByRecursion.{All-weaker, All-map, kept_by_passes}
 use Rattle.std.proofs.lemmas.Bool.{le-ltb, not_from_true}
 use Rattle.heap_links.specs.declared.timer.Timer.{Timer}
@@ -51,5 +51,5 @@ module _ {A : Type 0} (before : A → A → Bool) (o : StrictOrder before) where
       })
 
   -- nothing is ripe if the first by soft time is not
-  pub first_unripe : (x : Timer A) (xs : List (Timer A)) (w : A) → First before (λ t. t.soft) x xs → before w x.soft ≡ true → All (λ t. ripe before w t ≡ false) xs
+  pub first_unripe : (x : Timer A) (xs : List (Timer A)) (w : A) → First before (λ t. t.soft) x xs → before w x.soft ≡ true → AllByRecursion (λ t. ripe before w t ≡ false) xs
   first_unripe x xs w f h = All-weaker (λ t. before w t.soft ≡ true) (λ t. ripe before w t ≡ false) (λ t b. not_from_true (before w t.soft) b) xs (none_by_then before o (λ t. t.soft) x xs w f h)

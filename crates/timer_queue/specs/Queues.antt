@@ -3,7 +3,7 @@
 --     state_of q c d           the queue with an alarm at clock c that is due at d, as the state that the calls are defined on
 --     Sound before q           what depends on the order of times: both heaps are in order, numbers are distinct, no soft time is after its hard time
 use Rattle.std.specs.Prelude.{◌≡◌, Bool, false, List, Option}
-use Rattle.std.specs.List.{AllByRecursion as All}
+use Rattle.std.specs.List.{AllByRecursion}
 use Rattle.heap_links.specs.declared.slots.Slot.{Slot}
 use Rattle.heap_links.specs.declared.timer.Timer.{Timer}
 use Rattle.slot_heaps.specs.Pending.{by_hard, by_soft, listed}
@@ -27,4 +27,4 @@ pub record Sound {A : Type 0} (before : A → A → Bool) (q : TimerQueue A) : T
   pub by_hard : Heaped before (λ x. x.hard) by_hard (queue_slots q) q.inner.pending
   pub by_soft : Heaped before (λ x. x.soft) by_soft (queue_slots q) q.inner.pending
   pub distinct : Distinct (queue_timers q)
-  pub proper : All (λ x. before x.hard x.soft ≡ false) (queue_timers q)
+  pub proper : AllByRecursion (λ x. before x.hard x.soft ≡ false) (queue_timers q)

@@ -1,7 +1,7 @@
 -- The wake-ups of an advance over timers that lie in any order. Assumes nothing.
 --     ServedAll ..    what an advance to t over the timers xs left: its counts, its log, the timers ys, the alarm's clock and due time
 use Rattle.std.specs.Prelude.{◌≡◌, ℕ, ◌+◌, Bool, false, List, length, Option}
-use Rattle.std.specs.List.{AllByRecursion as All}
+use Rattle.std.specs.List.{AllByRecursion}
 use Rattle.heap_links.specs.declared.slots.Slot.{Slot}
 use Rattle.slot_heaps.specs.Pending.{listed}
 use Rattle.key_heaps.specs.Sifts.{BothHeaped}
@@ -19,7 +19,7 @@ pub record ServedAll {A : Type 0} (before : A → A → Bool) (t : A) (xs ys : L
   pub clock : c ≡ t
   pub due : d ≡ least_hard before ys
   pub distinct : Distinct ys
-  pub proper : All (λ x. before x.hard x.soft ≡ false) ys
+  pub proper : AllByRecursion (λ x. before x.hard x.soft ≡ false) ys
 
 -- each of the timers xs was logged or is left
 abbrev pub CountedAll : {A : Type 0} → (A → A → Bool) → A → List (Timer A) → List (Timer A) → Type 0
@@ -29,7 +29,7 @@ CountedAll before t xs ys = length ys + length (walk before t xs).entries ≡ le
 pub record Ready {A : Type 0} (before : A → A → Bool) (n : ℕ) (ss : List (Slot A)) (c : A) (d : Option A) (t : A) : Type 0 where
   pub heaped : BothHeaped before n ss
   pub distinct : Distinct (listed n ss)
-  pub proper : All (λ x. before x.hard x.soft ≡ false) (listed n ss)
+  pub proper : AllByRecursion (λ x. before x.hard x.soft ≡ false) (listed n ss)
   pub held : length (listed n ss) ≡ n
   pub due : d ≡ least_hard before (listed n ss)
   pub clock : before t c ≡ false

@@ -1,5 +1,5 @@
 use Rattle.std.proofs.Common.{◌≡◌, ℕ, ◌+◌, ◌-◌, ◌<◌, false, List, set, sym, refl, ap, ◌∙◌, subst, arith}
-use Rattle.std.specs.List.{AllByRecursion as All}
+use Rattle.std.specs.List.{AllByRecursion}
 use Rattle.heap_links.specs.declared.timer.Timer.{Timer}
 use Rattle.slot_heaps.specs.Firsts.{First}
 use Rattle.slot_heaps.specs.Pending.{listed, Inserted}
@@ -65,5 +65,5 @@ returns-in_default g c =
       ordered = inv.4;
       fired = λ h d.
           fire_ends g.T.Time.before g.met.T.Time.ordered c.args.wake c.args.forcing c.args.at _ c.args.log.now _ _ _ (inv.5 h d)
-          (subst (All (λ y. ripe g.T.Time.before c.args.wake y ≡ false)) (sym none) tt);
+          (subst (AllByRecursion (λ y. ripe g.T.Time.before c.args.wake y ≡ false)) (sym none) tt);
     }
