@@ -1,3 +1,5 @@
+#![tactic(auto)]
+
 // Tables of calls, played on the alarm devices.
 #[cfg(test)]
 mod play;

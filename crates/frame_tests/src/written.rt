@@ -67,7 +67,7 @@ fn worked_line(rt: HostRuntime) -> Result<(), Fail> {
         Ok(n) => assert_eq!(rt; n, 44),
         Err(_) => return Err(Fail::new("refused")),
     }
-    assert!(rt; &buffer[0..44] == b"0200000001000000000000000A000000000000001E2B");
+    assert!(rt; &buffer[0..44] == b"0200000001000000000000000A000000000000001E2B".as_slice());
     assert_eq!(rt; buffer[44], 9);
     Ok(())
 }

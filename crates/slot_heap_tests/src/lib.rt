@@ -1,3 +1,5 @@
+#![tactic(auto)]
+
 // A fixed sequence of inserts and removes on the two heaps, compared with sorting.
 #[cfg(test)]
 mod play;

@@ -1,6 +1,6 @@
 // Inserts and removes on the heaps, each compared with the reference.
 ghost use Rattle.std.specs.Prelude.{◌+◌, ◌<◌, ◌≤◌, length, IfOk};
-ghost use Rattle.slot_heaps.specs.Columns.{place_of};
+ghost use Rattle.heap_links.specs.Columns.{place_of};
 ghost use Rattle.slot_heaps.specs.Pending.{by_hard, Standing};
 
 use crate::reference::{Entry, rank, sort_ranks};

@@ -30,7 +30,7 @@ pub(crate) fn sort_ranks(ranks: &mut [u64], entries: &[Entry], by_hard: bool) {
         };
         number = number.saturating_add(1);
     }
-    ranks.sort();
+    ranks.sort_unstable();
 }
 
 // The next number of a fixed sequence.

@@ -3,6 +3,7 @@ use crate::reference::*;
 use slot_heaps::layout::lay_out;
 use slot_heaps::slots::Slot;
 use std::process::Abort;
+use std::test::Fail;
 use times::*;
 
 #[test]

@@ -1,5 +1,7 @@
 // Runs a request file: lines from standard input, the report to standard output, the totals at the end if the run was closed.
 // What a line does is decided in the libraries; here bytes are moved, and the run is opened and closed when it may be.
+#![tactic(auto)]
+
 mod boards;
 mod desk;
 
