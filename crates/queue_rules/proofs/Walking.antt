@@ -1,5 +1,5 @@
 -- The wake-ups of an advance, one after the other.
-use Rattle.std.proofs.Common.{◌≡◌, Bool, true, false, not, ◌&&◌, ◌⊎◌, List, [], ◌∷◌, ◌++◌, map, filter, sym, refl, ap, ◌∙◌, subst, inl, inr, ⊎_elim}
+use Rattle.std.proofs.Common.{◌≡◌, suc, Bool, true, false, not, ◌&&◌, ◌⊎◌, List, [], ◌∷◌, ◌++◌, map, length, filter, sym, refl, ap, ◌∙◌, subst, inl, inr, ⊎_elim}
 use Rattle.std.specs.List.{AllByRecursion}
 use Rattle.std.proofs.lemmas.List.Elements.{filter-append}
 use Rattle.std.proofs.ByRecursion.{All-weaker, All-append, kept_by_passes, all_kept_by}
@@ -67,6 +67,7 @@ module _ {A : Type 0} (before : A → A → Bool) (o : StrictOrder before) where
     pub ahead : AllByRecursion (λ q. before q.hard t ≡ false) r.pending
     pub logs : Logs xs r.entries
     pub fates : AllByRecursion (Fared t r.pending r.entries) xs
+    pub counts : length (marks r.entries) ≡ length r.wakes
     pub times : wake_times r.entries ≡ r.wakes
     pub apart : Pairwise (Over before o) (marks r.entries)
     pub over : AllByRecursion (λ f. Past f.hard t r.pending) (marks r.entries)
@@ -78,6 +79,7 @@ module _ {A : Type 0} (before : A → A → Bool) (o : StrictOrder before) where
     ahead = a;
     logs = tt;
     fates = All-weaker (In xs) (Fared t xs []) (λ p i. inl (i, refl)) xs (in_itself xs);
+    counts = refl;
     times = refl;
     apart = tt;
     over = tt;
@@ -142,6 +144,7 @@ module _ {A : Type 0} (before : A → A → Bool) (o : StrictOrder before) where
           fates = all_from_in (Fared t r.pending (after before w xs r).entries) xs
               (λ p i. ⊎_elim {C = Fared t r.pending (after before w xs r).entries p}
               (λ h. inr (fires p i h)) (λ h. waits p i h) (cases_Bool (ripe before w p)));
+          counts = ap length e ∙ ap suc rest.counts;
           times = ap (map (λ f. f.wake)) e ∙ ap (λ ws. w ∷ ws) rest.times;
           apart = subst (Pairwise (Over before o)) (sym e) (
             subst (λ h. AllByRecursion (λ g. before h g.soft ≡ true) (marks r.entries)) at_w

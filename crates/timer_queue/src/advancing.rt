@@ -30,7 +30,8 @@ pub(crate) fn serve<T: Time, A: Alarm<T>>(
     requires standing { Standing pending slots.old }
     requires room { pending ≤ length log.old }
     ensures standing { Standing result.left slots.new }
-    ensures fewer { result.wakes + result.left ≤ pending }
+    ensures fewer { result.left ≤ pending }
+    ensures few_wakes { result.wakes + result.left ≤ pending }
     ensures held { length (listed result.left slots.new) + pending ≡ length (listed pending slots.old) + result.left }
     ensures ordered { BothHeaped T.Time.before pending slots.old → BothHeaped T.Time.before result.left slots.new }
     ensures served { Ready T.Time.before pending slots.old (A.Alarm.clock alarm.old) (A.Alarm.due alarm.old) t → ServedAll T.Time.before t (listed pending slots.old) (listed result.left slots.new) result.wakes log.old log.new (A.Alarm.clock alarm.new) (A.Alarm.due alarm.new) }

@@ -79,7 +79,8 @@ pub(crate) fn run<T: Time, A: Alarm<T>>(
     requires room { inner.old.pending ≤ length log.old }
     ensures spared { Spared inner.old inner.new }
     ensures standing { Standing inner.new.pending (held_slots inner.new) }
-    ensures fewer { result + inner.new.pending ≤ inner.old.pending }
+    ensures fewer { inner.new.pending ≤ inner.old.pending }
+    ensures few_wakes { result + inner.new.pending ≤ inner.old.pending }
     ensures held { length (held_timers inner.new) + inner.old.pending ≡ length (held_timers inner.old) + inner.new.pending }
     ensures ordered { BothHeaped T.Time.before inner.old.pending (held_slots inner.old) → BothHeaped T.Time.before inner.new.pending (held_slots inner.new) }
     ensures served { Ready T.Time.before inner.old.pending (held_slots inner.old) (A.Alarm.clock alarm.old) (A.Alarm.due alarm.old) t → ServedAll T.Time.before t (held_timers inner.old) (held_timers inner.new) result log.old log.new (A.Alarm.clock alarm.new) (A.Alarm.due alarm.new) }

@@ -42,6 +42,7 @@ returns-after-loop-t g c =
     record {
       standing = inv.0;
       fewer = omega (arith, inv.1);
+      few_wakes = omega (arith, inv.1);
       held = inv.2;
       ordered = inv.3;
       served = λ r. let s = inv.4 r in serve_ends g.T.Time.before g.met.T.Time.ordered c.args.t (listed c.args.pending c.args.slots.now) c.args.log.now c.loop-t.wakes c.loop-t.log (listed c.loop-t.left c.loop-t.slots) _ _ _ _ s (c.loop-t-test.ensures s.clock);
@@ -54,6 +55,7 @@ returns-in_default g c =
     record {
       standing = inv.0;
       fewer = omega (arith, inv.1);
+      few_wakes = omega (arith, inv.1);
       held = inv.2;
       ordered = inv.3;
       served = λ r.
@@ -74,6 +76,7 @@ returns-then-rest-left g c =
     record {
       standing = subst (λ (n : ℕ). Standing n c.fire-rest.new.slots) same f.standing;
       fewer = omega (arith, inv.1);
+      few_wakes = omega (arith, inv.1);
       held = omega (arith, inv.2, held);
       ordered = λ h. subst (λ (n : ℕ). BothHeaped g.T.Time.before n c.fire-rest.new.slots) same (f.ordered (inv.3 h));
       served = λ r.

@@ -29,6 +29,7 @@ returns g c =
       spared = record { usable = refl; size = f.size; spare = f.back };
       standing = subst (Standing l) (sym f.front) c.serve-service.ensures.standing;
       fewer = c.serve-service.ensures.fewer;
+      few_wakes = c.serve-service.ensures.few_wakes;
       held = subst (λ (ss : List (Slot g.row.T.Denot)). length (listed l ss) + p ≡ length (listed p (take u old)) + l) (sym f.front)
           (subst (λ (k : ℕ). length (listed l c.serve-service.new.slots) + p ≡ length (listed p (take k old)) + l) z c.serve-service.ensures.held);
       ordered = λ h. subst (BothHeaped g.T.Time.before l) (sym f.front)

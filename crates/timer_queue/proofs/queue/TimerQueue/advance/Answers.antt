@@ -66,7 +66,7 @@ returns g c =
     let s : State g.row.T.Denot = view u xs (clock a) (due a) in
     let s' : State g.row.T.Denot = view j.usable ys (clock a') (due a') in
     let held = q.held in
-    let fired : length xs ≡ length ys + m = omega (arith, c.run-wakes.ensures.held, c.run-wakes.ensures.fewer) in
+    let fired : length xs ≡ length ys + m = omega (arith, c.run-wakes.ensures.held, c.run-wakes.ensures.few_wakes) in
     let went : Sound before q → (advance_refusal before u xs (clock a) (due a) t (length old) ≡ None) × ServedAll before t xs ys n old new (clock a') (due a') × CountedAll before t xs ys =
     λ h.
     let heap : BothHeaped before p (queue_slots q) = (h.by_hard, h.by_soft) in
@@ -96,7 +96,7 @@ returns g c =
           advance_greedy before o s s' t (length old) (Ok (n, m)) (take m new) (distinct_rearranged r h.distinct) (all_rearranged _ r h.proper) (out h);
       later = λ h. stayed before o u xs (clock a) (due a) t (length old) (went h).0 ys n m old new (clock a') (due a') h.distinct h.proper (went h).1 (went h).2 fired;
       refused = tt;
-      few = (omega (arith, c.run-wakes.ensures.fewer), omega (arith, c.run-wakes.ensures.fewer), omega (arith, c.in_ok-check_advance.ensures.room));
+      few = (omega (arith, c.run-wakes.ensures.few_wakes), omega (arith, c.run-wakes.ensures.few_wakes), omega (arith, c.in_ok-check_advance.ensures.room));
       unlogged = tt;
       spared = c.run-wakes.ensures.spared;
     }
