@@ -1,4 +1,4 @@
-mod Aims
-mod Chase
-mod Outcomes
-mod RingCounts
+pub mod Aims
+pub mod Chase
+pub mod Outcomes
+pub mod RingCounts

@@ -2,7 +2,7 @@
 // how many lines, frames and refusals there were. What a line becomes is decided in the libraries.
 #![tactic(auto)]
 
-ghost use Rattle.std.specs.Prelude.{◌≡◌, ◌+◌, ◌≤◌, OnOk};
+ghost use Rattle.std.specs.Prelude.{◌≡◌, ◌+◌, ◌≤◌, length, IfOk, OnOk};
 
 use frames::read::read;
 use lines::splitter::LineSplitter;
@@ -10,7 +10,7 @@ use request_words::buffers::put_line;
 use request_words::place::LONGEST;
 use request_words::tally::Tally;
 use std::io;
-use std::io::{Read, Stdout, Write};
+use std::io::{Read, Stdin, Stdout, Write};
 
 // What is to be written, and is not written yet.
 #[derive(Drop)]
@@ -74,6 +74,24 @@ fn take_piece(
     Ok(())
 }
 
+// Reads a piece more; before a failed read is handed on, what was put in words so far is written.
+fn read_piece(
+    input: &mut Stdin,
+    buffer: &mut [u8],
+    page: &mut Page,
+    out: &mut Stdout,
+) -> io::Result<usize>
+    ensures { IfOk result (λ n. n ≤ length buffer.old) }
+{
+    match input.read(buffer) {
+        Ok(count) => Ok(count),
+        Err(error) => {
+            write_out(page, out)?;
+            Err(error)
+        }
+    }
+}
+
 // The last line of the output.
 fn put_summary(tally: &Tally, page: &mut Page, out: &mut Stdout) -> io::Result<()> {
     make_room(page, out)?;
@@ -93,7 +111,7 @@ fn main(rt: HostRuntime) -> io::Result<()> {
     };
     let mut buffer = [0; 65536];
     for _ in 0..u64::MAX {
-        let count = input.read(&mut buffer)?;
+        let count = read_piece(&mut input, &mut buffer, &mut page, &mut out)?;
         if count == 0 {
             break;
         }

@@ -1,5 +1,5 @@
 // The run of a request file: it waits, is open, and is closed, each a type of its own. Lines go in, and frames of the report
-// come out. So far an open run has everything but the calls of its queue.
+// come out. An open run is lent its queue and the alarm with every line.
 #![tactic(auto)]
 
 pub mod closed;

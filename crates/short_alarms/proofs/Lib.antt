@@ -1,1 +1,1 @@
-mod Matches
+pub mod Matches
