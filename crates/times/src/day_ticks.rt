@@ -3,7 +3,8 @@ ghost use Rattle.std.specs.Prelude.{◌^◌, ◌<◌};
 
 mod kind;
 
-#[derive(Clone, Copy, PartialEq, Eq, Debug)]
+// In the order of days, and of ticks within a day.
+#[derive(Clone, Copy, PartialEq, Eq, PartialOrd, Ord, Debug)]
 pub struct DayTick {
     day: u32,
     tick: u32,

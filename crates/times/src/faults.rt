@@ -4,15 +4,13 @@ ghost use Rattle.times.specs.Faults.{time_fault_number};
 
 #[derive(Clone, Copy, PartialEq, Eq, Debug)]
 pub enum TimeFault {
-    NoSuchTime,
+    NoSuchTime = 0x23,
 }
 
 impl TimeFault {
     pub fn number(self) -> u8
         ensures { result ≡ time_fault_number self }
     {
-        match self {
-            TimeFault::NoSuchTime => 0x23,
-        }
+        self as u8
     }
 }

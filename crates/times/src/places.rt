@@ -31,10 +31,7 @@ pub trait Measured: Time {
         ensures value { result ≡ capped place at last self n }
         ensures agrees { Agrees Self.Time.before place }
     {
-        match self.checked_ahead(n) {
-            Some(t) => t,
-            None => Self::last(),
-        }
+        self.checked_ahead(n).unwrap_or(Self::last())
     }
 
     ghost placed: { Places place at last };

@@ -42,7 +42,7 @@ impl Time for DayTick {
     ghost ordered = { by_place day_tick_place day_tick_same };
 
     fn before(self, other: DayTick) -> bool {
-        self.day < other.day || (self.day == other.day && self.tick < other.tick)
+        self < other
     }
 }
 
@@ -61,13 +61,8 @@ impl Measured for DayTick {
 
     fn checked_ahead(self, n: u32) -> Option<DayTick> {
         let (day, tick) = self.carry(n);
-        if day > u64::from(u32::MAX) {
-            return None;
-        }
-        Some(DayTick {
-            day: day as u32,
-            tick,
-        })
+        let day = u32::try_from(day).ok()?;
+        Some(DayTick { day, tick })
     }
 
     fn last() -> DayTick {

@@ -30,7 +30,7 @@ impl Time for Tick {
     ghost ordered = { by_place tick_place tick_same };
 
     fn before(self, other: Tick) -> bool {
-        self.place < other.place
+        self < other
     }
 }
 
@@ -48,10 +48,7 @@ impl Measured for Tick {
     }
 
     fn checked_ahead(self, n: u32) -> Option<Tick> {
-        match Tick::new(self.place + u64::from(n)) {
-            Ok(t) => Some(t),
-            Err(_) => None,
-        }
+        Tick::new(self.place + u64::from(n)).ok()
     }
 
     fn last() -> Tick {
