@@ -4,7 +4,7 @@ ghost use Rattle.alarm_chains.specs.Chains.{Counted, chain_clock, chain_due, mov
 ghost use Rattle.alarms.specs.Meaning.{Passes};
 
 use crate::stages::{aim, follow, pass_silent};
-use alarms::{Alarm, AlarmFault, Passage, ShortAlarm};
+use alarms::{Alarm, AlarmFault, Device, Passage, ShortAlarm};
 use times::{Measured, Time};
 
 #[derive(Drop)]
@@ -16,8 +16,8 @@ pub struct ChainedAlarm<T, S> {
 
 impl<T: Measured, S: ShortAlarm<T>> ChainedAlarm<T, S> {
     pub fn new(mut device: S) -> Self
-        ensures clock { chain_clock S.ShortAlarm.clock result ≡ S.ShortAlarm.clock device }
-        ensures due { chain_due T.Time.before S.ShortAlarm.due result ≡ None }
+        ensures clock { chain_clock S.Device.clock result ≡ S.Device.clock device }
+        ensures due { chain_due T.Time.before S.Device.due result ≡ None }
     {
         device.clear();
         let goal = device.clock();
@@ -29,8 +29,8 @@ impl<T: Measured, S: ShortAlarm<T>> ChainedAlarm<T, S> {
 
     // Passes to `t`, and answers also how often the short alarm rang.
     pub fn pass_counted(&mut self, t: T) -> Result<(Passage, u64), AlarmFault>
-        ensures value { Passes T.Time.before (chain_clock S.ShortAlarm.clock) (chain_due T.Time.before S.ShortAlarm.due) self.old self.new t (uncounted result) }
-        ensures count { Counted S.ShortAlarm.reach (chain_due T.Time.before S.ShortAlarm.due self.old) (moved T.Measured.place (chain_clock S.ShortAlarm.clock) self.old self.new) result }
+        ensures value { Passes T.Time.before (chain_clock S.Device.clock) (chain_due T.Time.before S.Device.due) self.old self.new t (uncounted result) }
+        ensures count { Counted S.ShortAlarm.reach (chain_due T.Time.before S.Device.due self.old) (moved T.Measured.place (chain_clock S.Device.clock) self.old self.new) result }
     {
         if t.before(self.short.clock()) {
             return Err(AlarmFault::BeforeClock);
@@ -42,26 +42,18 @@ impl<T: Measured, S: ShortAlarm<T>> ChainedAlarm<T, S> {
     }
 }
 
-impl<T: Measured, S: ShortAlarm<T>> Alarm<T> for ChainedAlarm<T, S> {
-    ghost clock = { chain_clock S.ShortAlarm.clock };
+impl<T: Measured, S: ShortAlarm<T>> Device<T> for ChainedAlarm<T, S> {
+    ghost clock = { chain_clock S.Device.clock };
 
-    ghost due = { chain_due T.Time.before S.ShortAlarm.due };
+    ghost due = { chain_due T.Time.before S.Device.due };
 
     fn clock(&self) -> T {
         self.short.clock()
     }
 
     fn due(&self) -> Option<T> {
-        match self.short.due() {
-            Some(stage) if !self.goal.before(stage) => Some(self.goal),
-            _ => None,
-        }
-    }
-
-    fn set(&mut self, t: T) -> Result<(), AlarmFault> {
-        aim(&mut self.short, t)?;
-        self.goal = t;
-        Ok(())
+        let stage = self.short.due()?;
+        (!self.goal.before(stage)).then_some(self.goal)
     }
 
     fn clear(&mut self) {
@@ -71,5 +63,13 @@ impl<T: Measured, S: ShortAlarm<T>> Alarm<T> for ChainedAlarm<T, S> {
     fn pass(&mut self, t: T) -> Result<Passage, AlarmFault> {
         let (passage, _) = self.pass_counted(t)?;
         Ok(passage)
+    }
+}
+
+impl<T: Measured, S: ShortAlarm<T>> Alarm<T> for ChainedAlarm<T, S> {
+    fn set(&mut self, t: T) -> Result<(), AlarmFault> {
+        aim(&mut self.short, t)?;
+        self.goal = t;
+        Ok(())
     }
 }

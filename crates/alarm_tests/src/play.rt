@@ -1,5 +1,5 @@
 // A table of calls, with what each is to answer and leave, played on a device.
-use alarms::{Alarm, AlarmFault, Passage, ShortAlarm};
+use alarms::{AlarmFault, Device, Passage};
 use std::process::Abort;
 use std::test::Fail;
 use times::Plain;
@@ -11,74 +11,43 @@ pub enum Call {
     Pass(u64),
 }
 
-#[derive(Clone, Copy, PartialEq, Eq, Debug)]
-pub enum Answer {
-    Done,
-    Came(Passage),
-    Refused(u8),
-}
+// How a pass ended, or nothing of another call, or why the call was refused.
+pub type Answer = Result<Option<Passage>, AlarmFault>;
 
-pub const RANG: Answer = Answer::Came(Passage::Rang);
+pub const DONE: Answer = Ok(None);
 
-pub const ARRIVED: Answer = Answer::Came(Passage::Arrived);
+pub const RANG: Answer = Ok(Some(Passage::Rang));
+
+pub const ARRIVED: Answer = Ok(Some(Passage::Arrived));
+
+pub const BEFORE_CLOCK: Answer = Err(AlarmFault::BeforeClock);
+
+pub const BEYOND_REACH: Answer = Err(AlarmFault::BeyondReach);
 
 // A call, its answer, and the clock and the due time after it; times are plain forms.
 pub type Row = (Call, Answer, u64, Option<u64>);
 
-fn done(r: Result<(), AlarmFault>) -> Answer {
-    match r {
-        Ok(()) => Answer::Done,
-        Err(fault) => Answer::Refused(fault.number()),
-    }
-}
-
-fn came(r: Result<Passage, AlarmFault>) -> Answer {
-    match r {
-        Ok(passage) => Answer::Came(passage),
-        Err(fault) => Answer::Refused(fault.number()),
-    }
-}
-
-fn plain<T: Plain>(due: Option<T>) -> Option<u64> {
-    match due {
-        Some(t) => Some(t.to_plain()),
-        None => None,
-    }
-}
-
-// The two traits share their calls, and no supertrait.
-macro_rules! play_rows {
-    ($rt:ident, $time:ty, $alarm:ident, $rows:ident) => {{
-        for row in $rows {
-            let (call, answer, clock, due) = *row;
-            let got = match call {
-                Call::Set(t) => done($alarm.set(<$time>::from_plain(t)?)),
-                Call::Pass(t) => came($alarm.pass(<$time>::from_plain(t)?)),
-                Call::Clear => {
-                    $alarm.clear();
-                    Answer::Done
-                }
-            };
-            assert_eq!($rt; got, answer);
-            assert_eq!($rt; $alarm.clock().to_plain(), clock);
-            assert_eq!($rt; plain($alarm.due()), due);
-        }
-        Ok(())
-    }};
-}
-
-pub(crate) fn play<T: Plain, A: Alarm<T>>(
+// `set` is the call by which this device is set: an alarm's or a short alarm's.
+pub(crate) fn play<T: Plain, D: Device<T>, S: Fn(&mut D, T) -> Result<(), AlarmFault>>(
     rt: &impl Abort,
-    alarm: &mut A,
+    device: &mut D,
     rows: &[Row],
-) -> Result<(), Fail> {
-    play_rows!(rt, T, alarm, rows)
-}
-
-pub(crate) fn play_short<T: Plain, S: ShortAlarm<T>>(
-    rt: &impl Abort,
-    alarm: &mut S,
-    rows: &[Row],
-) -> Result<(), Fail> {
-    play_rows!(rt, T, alarm, rows)
+    set: S,
+) -> Result<(), Fail>
+    requires { S.IsAlwaysCallable set }
+{
+    for (call, answer, clock, due) in rows {
+        let got = match call {
+            Call::Set(t) => set(device, T::from_plain(*t)?).map(|()| None),
+            Call::Pass(t) => device.pass(T::from_plain(*t)?).map(Some),
+            Call::Clear => {
+                device.clear();
+                DONE
+            }
+        };
+        assert_eq!(rt; got, *answer);
+        assert_eq!(rt; device.clock().to_plain(), *clock);
+        assert_eq!(rt; device.due().map(T::to_plain), *due);
+    }
+    Ok(())
 }

@@ -7,20 +7,20 @@ use std::process::Abort;
 use std::test::Fail;
 use times::*;
 
+fn play_alarm<T: Plain, A: Alarm<T>>(
+    rt: &impl Abort,
+    alarm: &mut A,
+    rows: &[Row],
+) -> Result<(), Fail> {
+    play(rt, alarm, rows, |alarm: &mut A, t: T| alarm.set(t))
+}
+
 // The same calls on the comparator and on both chains.
 fn play_on_each<T: Plain>(rt: &impl Abort, start: u64, rows: &[Row]) -> Result<(), Fail> {
     let clock = T::from_plain(start)?;
-    play::<T, Comparator<T>>(rt, &mut Comparator::new(clock), rows)?;
-    play::<T, ChainedAlarm<T, DownCounter<T>>>(
-        rt,
-        &mut ChainedAlarm::new(DownCounter::new(clock)),
-        rows,
-    )?;
-    play::<T, ChainedAlarm<T, LowBitMatcher<T>>>(
-        rt,
-        &mut ChainedAlarm::new(LowBitMatcher::new(clock)),
-        rows,
-    )
+    play_alarm(rt, &mut Comparator::new(clock), rows)?;
+    play_alarm(rt, &mut ChainedAlarm::new(DownCounter::new(clock)), rows)?;
+    play_alarm(rt, &mut ChainedAlarm::new(LowBitMatcher::new(clock)), rows)
 }
 
 #[test]
@@ -34,10 +34,26 @@ fn every_alarm_alike(rt: HostRuntime) -> Result<(), Fail> {
 
 #[test]
 fn short_alarms(rt: HostRuntime) -> Result<(), Fail> {
-    let clock = Tick::new(0)?;
-    play_short::<Tick, DownCounter<Tick>>(&rt, &mut DownCounter::new(clock), &COUNTED)?;
-    let clock = DayTick::new(0, 4_000)?;
-    play_short::<DayTick, LowBitMatcher<DayTick>>(&rt, &mut LowBitMatcher::new(clock), &MATCHED)
+    let mut counter = DownCounter::new(Tick::new(0)?);
+    play(
+        &rt,
+        &mut counter,
+        &COUNTED,
+        |short: &mut DownCounter<Tick>, t| short.set(t),
+    )?;
+    let mut matcher = LowBitMatcher::new(DayTick::new(0, 4_000)?);
+    play(
+        &rt,
+        &mut matcher,
+        &MATCHED,
+        |short: &mut LowBitMatcher<DayTick>, t| short.set(t),
+    )
+}
+
+#[test]
+fn fault_numbers(rt: HostRuntime) {
+    assert_eq!(rt; AlarmFault::BeforeClock.number(), 0x01);
+    assert_eq!(rt; AlarmFault::BeyondReach.number(), 0x02);
 }
 
 // Rings of the short alarm: a goal three reaches away, the goal itself, and ten years on.

@@ -2,6 +2,7 @@
 ghost use Rattle.std.specs.Prelude.{◌≡◌, None};
 ghost use Rattle.alarms.specs.Comparators.{compare_due};
 
+use crate::device::Device;
 use crate::faults::{AlarmFault, Passage};
 use crate::meaning::Alarm;
 use crate::steps::ring_before;
@@ -25,7 +26,7 @@ impl<T: Time> Comparator<T> {
     }
 }
 
-impl<T: Time> Alarm<T> for Comparator<T> {
+impl<T: Time> Device<T> for Comparator<T> {
     ghost clock = { λ a. a.clock };
 
     ghost due = { λ a. compare_due T.Time.before a.clock a.compare };
@@ -35,18 +36,7 @@ impl<T: Time> Alarm<T> for Comparator<T> {
     }
 
     fn due(&self) -> Option<T> {
-        match self.compare {
-            Some(t) if !t.before(self.clock) => Some(t),
-            _ => None,
-        }
-    }
-
-    fn set(&mut self, t: T) -> Result<(), AlarmFault> {
-        if t.before(self.clock) {
-            return Err(AlarmFault::BeforeClock);
-        }
-        self.compare = Some(t);
-        Ok(())
+        self.compare.filter(|t| !t.before(self.clock))
     }
 
     fn clear(&mut self) {
@@ -64,5 +54,15 @@ impl<T: Time> Alarm<T> for Comparator<T> {
                 Ok(Passage::Arrived)
             }
         }
+    }
+}
+
+impl<T: Time> Alarm<T> for Comparator<T> {
+    fn set(&mut self, t: T) -> Result<(), AlarmFault> {
+        if t.before(self.clock) {
+            return Err(AlarmFault::BeforeClock);
+        }
+        self.compare = Some(t);
+        Ok(())
     }
 }

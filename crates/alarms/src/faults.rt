@@ -10,17 +10,14 @@ pub enum Passage {
 
 #[derive(Clone, Copy, PartialEq, Eq, Debug)]
 pub enum AlarmFault {
-    BeforeClock,
-    BeyondReach,
+    BeforeClock = 0x01,
+    BeyondReach = 0x02,
 }
 
 impl AlarmFault {
     pub fn number(self) -> u8
         ensures { result ≡ alarm_fault_number self }
     {
-        match self {
-            AlarmFault::BeforeClock => 0x01,
-            AlarmFault::BeyondReach => 0x02,
-        }
+        self as u8
     }
 }

@@ -2,12 +2,14 @@
 #![tactic(auto)]
 
 mod comparators;
+mod device;
 mod faults;
 mod meaning;
 mod short;
 mod steps;
 
 pub use comparators::Comparator;
+pub use device::Device;
 pub use faults::{AlarmFault, Passage};
 pub use meaning::Alarm;
 pub use short::ShortAlarm;

@@ -1,28 +1,11 @@
-// An alarm wakes the processor at its due time.
-ghost use Rattle.std.specs.Prelude.{◌≡◌, Option};
-ghost use Rattle.alarms.specs.Meaning.{Clears, NotPast, Passes, Sets};
+// An alarm wakes the processor at its due time, and can be set to any time from its clock on.
+ghost use Rattle.alarms.specs.Meaning.{Sets};
 
-use crate::faults::{AlarmFault, Passage};
+use crate::device::Device;
+use crate::faults::AlarmFault;
 use times::Time;
 
-pub trait Alarm<T: Time> {
-    ghost clock: { Self → T };
-
-    ghost due: { Self → Option T };
-
-    fn clock(&self) -> T
-        ensures { result ≡ clock self.now };
-
-    fn due(&self) -> Option<T>
-        ensures value { result ≡ due self.now }
-        ensures ahead { NotPast T.Time.before (clock self.now) result };
-
+pub trait Alarm<T: Time>: Device<T> {
     fn set(&mut self, t: T) -> Result<(), AlarmFault>
-        ensures { Sets T.Time.before clock due self.old self.new t result };
-
-    fn clear(&mut self)
-        ensures { Clears clock due self.old self.new };
-
-    fn pass(&mut self, t: T) -> Result<Passage, AlarmFault>
-        ensures { Passes T.Time.before clock due self.old self.new t result };
+        ensures { Sets T.Time.before Self.clock Self.due self.old self.new t result };
 }

@@ -11,8 +11,5 @@ pub fn ring_before<T: Time>(clock: T, due: Option<T>, t: T) -> Result<Option<T>,
     if t.before(clock) {
         return Err(AlarmFault::BeforeClock);
     }
-    match due {
-        Some(ring) if ring.before(t) => Ok(Some(ring)),
-        _ => Ok(None),
-    }
+    Ok(due.filter(|ring| ring.before(t)))
 }

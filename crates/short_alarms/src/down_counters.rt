@@ -4,7 +4,7 @@ ghost use Rattle.short_alarms.specs.Countdown.{due_in};
 ghost use Rattle.std.proofs.Common.{rules};
 
 use crate::reaches::ticks_within;
-use alarms::{AlarmFault, Passage, ShortAlarm, ring_before};
+use alarms::{AlarmFault, Device, Passage, ShortAlarm, ring_before};
 use times::{Measured, Time};
 
 const REACH: u16 = 65_535;
@@ -25,33 +25,17 @@ impl<T: Measured> DownCounter<T> {
     }
 }
 
-impl<T: Measured> ShortAlarm<T> for DownCounter<T> {
+impl<T: Measured> Device<T> for DownCounter<T> {
     ghost clock = { λ a. a.clock };
 
     ghost due = { λ a. due_in T.Measured.place T.Measured.at a.clock a.left };
-
-    ghost reach = { 65535 };
-
-    ghost reaching = { Prim.search rules };
-
-    fn reach() -> u32 {
-        u32::from(REACH)
-    }
 
     fn clock(&self) -> T {
         self.clock
     }
 
     fn due(&self) -> Option<T> {
-        match self.left {
-            Some(ticks) => self.clock.checked_ahead(u32::from(ticks)),
-            None => None,
-        }
-    }
-
-    fn set(&mut self, t: T) -> Result<(), AlarmFault> {
-        self.left = Some(ticks_within(self.clock, t, REACH)?);
-        Ok(())
+        self.clock.checked_ahead(u32::from(self.left?))
     }
 
     fn clear(&mut self) {
@@ -73,5 +57,20 @@ impl<T: Measured> ShortAlarm<T> for DownCounter<T> {
                 Ok(Passage::Arrived)
             }
         }
+    }
+}
+
+impl<T: Measured> ShortAlarm<T> for DownCounter<T> {
+    ghost reach = { 65535 };
+
+    ghost reaching = { Prim.search rules };
+
+    fn reach() -> u32 {
+        u32::from(REACH)
+    }
+
+    fn set(&mut self, t: T) -> Result<(), AlarmFault> {
+        self.left = Some(ticks_within(self.clock, t, REACH)?);
+        Ok(())
     }
 }

@@ -7,7 +7,7 @@ ghost use Rattle.std.proofs.Common.{rules};
 
 use crate::low_bits::LowBits;
 use crate::reaches::ticks_within;
-use alarms::{AlarmFault, Passage, ShortAlarm, ring_before};
+use alarms::{AlarmFault, Device, Passage, ShortAlarm, ring_before};
 use times::{Measured, Time};
 
 const REACH: u16 = 4_095;
@@ -36,18 +36,10 @@ fn ticks_to_match(place: u64, low: LowBits) -> u32
     (u32::from(low.value) + 4096 - passed) % 4096
 }
 
-impl<T: Measured> ShortAlarm<T> for LowBitMatcher<T> {
+impl<T: Measured> Device<T> for LowBitMatcher<T> {
     ghost clock = { λ a. a.clock };
 
     ghost due = { λ a. match_due T.Measured.place T.Measured.at a.clock a.low };
-
-    ghost reach = { 4095 };
-
-    ghost reaching = { Prim.search rules };
-
-    fn reach() -> u32 {
-        u32::from(REACH)
-    }
 
     fn clock(&self) -> T {
         self.clock
@@ -60,16 +52,7 @@ impl<T: Measured> ShortAlarm<T> for LowBitMatcher<T> {
         ensures earliest { Earliest T.Time.before T.Measured.place self.now.clock self.now.low result }
     {
         let place = self.clock.place();
-        match self.low {
-            Some(low) => self.clock.checked_ahead(ticks_to_match(place, low)),
-            None => None,
-        }
-    }
-
-    fn set(&mut self, t: T) -> Result<(), AlarmFault> {
-        ticks_within(self.clock, t, REACH)?;
-        self.low = Some(LowBits::of(t.place()));
-        Ok(())
+        self.clock.checked_ahead(ticks_to_match(place, self.low?))
     }
 
     fn clear(&mut self) {
@@ -87,5 +70,21 @@ impl<T: Measured> ShortAlarm<T> for LowBitMatcher<T> {
                 Ok(Passage::Arrived)
             }
         }
+    }
+}
+
+impl<T: Measured> ShortAlarm<T> for LowBitMatcher<T> {
+    ghost reach = { 4095 };
+
+    ghost reaching = { Prim.search rules };
+
+    fn reach() -> u32 {
+        u32::from(REACH)
+    }
+
+    fn set(&mut self, t: T) -> Result<(), AlarmFault> {
+        ticks_within(self.clock, t, REACH)?;
+        self.low = Some(LowBits::of(t.place()));
+        Ok(())
     }
 }

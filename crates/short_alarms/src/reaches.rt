@@ -10,11 +10,12 @@ pub(crate) fn ticks_within<T: Measured>(clock: T, t: T, reach: u16) -> Result<u1
     ensures value { TicksWithin T.Time.before T.Measured.place T.Measured.at reach clock t result }
     ensures agrees { Agrees T.Time.before T.Measured.place }
 {
-    let Some(ticks) = t.place().checked_sub(clock.place()) else {
-        return Err(AlarmFault::BeforeClock);
-    };
-    if ticks > u64::from(reach) {
-        return Err(AlarmFault::BeyondReach);
+    let ticks = t
+        .place()
+        .checked_sub(clock.place())
+        .ok_or(AlarmFault::BeforeClock)?;
+    match u16::try_from(ticks) {
+        Ok(ticks) if ticks <= reach => Ok(ticks),
+        _ => Err(AlarmFault::BeyondReach),
     }
-    Ok(ticks as u16)
 }
