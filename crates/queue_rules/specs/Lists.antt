@@ -6,7 +6,8 @@
 --     least lt xs                   the least element by lt, if there is one
 --     put lt x xs, sorted lt xs     x put before the first element that it is less than; insertion sort
 use Rattle.std.specs.Prelude.{Bool, false, cond, ◌||◌, ◌⊎◌, List, [], ◌∷◌, Some, None, Option}
-use Rattle.std.specs.List.{AllByRecursion}
+use Rattle.std.specs.List.{AllByRecursion, AllByRecursion-prop}
+use Rattle.std.specs.Coded.{×_prop, Unit-prop}
 
 abbrev pub Any : {X : Type 0} → (X → Type 0) → List X → Type 0
 Any P [] = ⊥
@@ -15,6 +16,10 @@ Any P (x ∷ xs) = P x ⊎ Any P xs
 abbrev pub Pairwise : {X : Type 0} → (X → X → Type 0) → List X → Type 0
 Pairwise R [] = Unit {0}
 Pairwise R (x ∷ xs) = AllByRecursion (R x) xs × Pairwise R xs
+
+pub Pairwise-prop : {X : Type 0} (R : X → X → Type 0) → ((x y : X) → IsProp (R x y)) → (xs : List X) → IsProp (Pairwise R xs)
+Pairwise-prop R p [] = Unit-prop
+Pairwise-prop R p (x ∷ xs) = ×_prop (AllByRecursion-prop (R x) (p x) xs) (Pairwise-prop R p xs)
 
 pub data Rearranged {X : Type 0} : List X → List X → Type 0 where
   none : Rearranged [] []

@@ -9,7 +9,8 @@
 --     least_hard xs         the least hard time of the timers, if there is one
 use Rattle.std.specs.Prelude.{◌≡◌, ℕ, Bool, false, not, ◌&&◌, ◌||◌, List, map, Option, ◌==◌, nat_lt}
 use Rattle.heap_links.specs.declared.timer.Timer.{Timer}
-use Rattle.queue_rules.specs.Lists.{Pairwise, least}
+use Rattle.std.proofs.Props.{props}
+use Rattle.queue_rules.specs.Lists.{Pairwise, Pairwise-prop, least}
 
 module _ {A : Type 0} where
   abbrev pub timed : ℕ → A → A → Timer A
@@ -23,6 +24,9 @@ module _ {A : Type 0} where
 
   abbrev pub Distinct : List (Timer A) → Type 0
   Distinct = Pairwise (λ x y. (x.number == y.number) ≡ false)
+
+  pub Distinct-prop : (xs : List (Timer A)) → IsProp (Distinct xs)
+  Distinct-prop = Pairwise-prop _ (λ x y. Prim.hlevel props)
 
 module _ {A : Type 0} (before : A → A → Bool) where
   abbrev pub same : A → A → Bool

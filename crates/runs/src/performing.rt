@@ -33,11 +33,11 @@ pub(crate) fn perform<T: Plain, A: Alarm<T>>(
     step: Step<T>,
     log: &mut [Firing<T>],
 ) -> Result<(u16, u16), RunFault>
-    ensures told { Sound T.Time.before queue.old → told T.Plain.plain result log.new ≡ forget (carried_out (kind_by T.Time.before T.Plain.reads T.Plain.plain T.Measured.place T.Measured.at T.Measured.last) (length log.old) (state_with A.Alarm.clock A.Alarm.due queue.old alarm.old) step) }
-    ensures left { Sound T.Time.before queue.old → OnOk result (opened_with A.Alarm.clock A.Alarm.due (closing_step step) queue.new alarm.new ≡ effect_left (carried_out (kind_by T.Time.before T.Plain.reads T.Plain.plain T.Measured.place T.Measured.at T.Measured.last) (length log.old) (state_with A.Alarm.clock A.Alarm.due queue.old alarm.old) step) (opened_with A.Alarm.clock A.Alarm.due false queue.old alarm.old)) }
+    ensures told { Sound T.Time.before queue.old → told T.Plain.plain result log.new ≡ forget (carried_out (kind_by T.Time.before T.Plain.reads T.Plain.plain T.Measured.place T.Measured.at T.Measured.last) (length log.old) (state_with A.Device.clock A.Device.due queue.old alarm.old) step) }
+    ensures left { Sound T.Time.before queue.old → OnOk result (opened_with A.Device.clock A.Device.due (closing_step step) queue.new alarm.new ≡ effect_left (carried_out (kind_by T.Time.before T.Plain.reads T.Plain.plain T.Measured.place T.Measured.at T.Measured.last) (length log.old) (state_with A.Device.clock A.Device.due queue.old alarm.old) step) (opened_with A.Device.clock A.Device.due false queue.old alarm.old)) }
     ensures sound { Sound T.Time.before queue.old → Sound T.Time.before queue.new }
     ensures few { IfOk result (λ n. (n.0 ≤ length (queue_timers queue.old)) × (n.1 ≤ length (queue_timers queue.old)) × (n.1 ≤ length log.old)) }
-    ensures refused { Untouched result queue.old queue.new (A.Alarm.clock alarm.old) (A.Alarm.clock alarm.new) (A.Alarm.due alarm.old) (A.Alarm.due alarm.new) log.old log.new }
+    ensures refused { Untouched result queue.old queue.new (A.Device.clock alarm.old) (A.Device.clock alarm.new) (A.Device.due alarm.old) (A.Device.due alarm.new) log.old log.new }
     ensures spared { Spared queue.old.inner queue.new.inner }
 {
     match step {

@@ -3,7 +3,6 @@ pub mod Carried
 pub mod Entering
 pub mod Finding
 pub mod FiringLoop
-pub mod Fronts
 pub mod Inserting
 pub mod Leaving
 pub mod Logging

@@ -1,17 +1,20 @@
 -- What the first timer of each heap says of a wake-up.
-use Rattle.std.proofs.Common.{◌≡◌, Bool, true, false, ltb, List, map, Some, filter, refl, ap, ◌∙◌, inl}
+use Rattle.std.proofs.Common.{◌≡◌, ℕ, Bool, true, false, ltb, List, map, Some, None, Option, filter, sym, refl, ap, ◌∙◌, inl}
 use Rattle.std.specs.List.{AllByRecursion}
 use Rattle.std.proofs.ByRecursion.{All-weaker, All-map, kept_by_passes}
 use Rattle.std.proofs.lemmas.Bool.{le-ltb, not_from_true}
 use Rattle.heap_links.specs.declared.timer.Timer.{Timer}
-use Rattle.slot_heaps.specs.Firsts.{First}
-use Rattle.slot_heaps.specs.Pending.{Among}
+use Rattle.heap_links.specs.declared.slots.Slot.{Slot}
+use Rattle.key_heaps.specs.Sifts.{Heaped}
+use Rattle.slot_heaps.specs.Firsts.{First, Top}
+use Rattle.slot_heaps.specs.Pending.{by_hard, listed, Among}
 use Rattle.slot_heaps.proofs.Firsts.{first_is_least, none_by_then}
 use Rattle.times.specs.Order.{StrictOrder}
 use Rattle.queue_rules.specs.Lists.{least}
 use Rattle.queue_rules.specs.Timers.{same, least_hard}
 use Rattle.queue_rules.specs.WakeUps.{ripe, bearer}
 use Rattle.queue_rules.proofs.Elements.{In, any_map, any_at, kept_in, in_kept, all_in, all_from_in}
+use Rattle.timer_queue.proofs.FiringLoop.{listed_none}
 use Rattle.timer_queue.proofs.Inserting.{inserted_rearranged}
 use Rattle.queue_rules.proofs.Least.{Lowest, least_lowest, least_some, lowest_one}
 use Rattle.queue_rules.proofs.Orders.{number_order, same_is, same_itself}
@@ -25,6 +28,10 @@ is_least : {X : Type 0} (lt : X → X → Bool) (o : StrictOrder lt) (xs : List 
 is_least lt o xs m l =
     let s = least_some lt o (λ y. y ≡ m) xs l.stands in
     s.1 ∙ ap Some (lowest_one lt o xs s.0 m (least_lowest lt o xs s.0 s.1) l)
+
+abbrev pub hard_of : {A : Type 0} → Option (ℕ × Timer A) → Option A
+hard_of None = None
+hard_of (Some x) = Some x.1.hard
 
 module _ {A : Type 0} (before : A → A → Bool) (o : StrictOrder before) where
   -- its hard time is the least
@@ -53,3 +60,9 @@ module _ {A : Type 0} (before : A → A → Bool) (o : StrictOrder before) where
   -- nothing is ripe if the first by soft time is not
   pub first_unripe : (x : Timer A) (xs : List (Timer A)) (w : A) → First before (λ t. t.soft) x xs → before w x.soft ≡ true → AllByRecursion (λ t. ripe before w t ≡ false) xs
   first_unripe x xs w f h = All-weaker (λ t. before w t.soft ≡ true) (λ t. ripe before w t ≡ false) (λ t b. not_from_true (before w t.soft) b) xs (none_by_then before o (λ t. t.soft) x xs w f h)
+
+  -- so the least hard time is that of the first, if there is one
+  pub top_hard : (n : ℕ) (ss : List (Slot A)) (r : Option (ℕ × Timer A)) → Top before (λ t. t.hard) by_hard n ss r → Heaped before (λ t. t.hard) by_hard ss n →
+      hard_of r ≡ least_hard before (listed n ss)
+  top_hard n ss None e h = sym (ap (least_hard before) (listed_none n ss e))
+  top_hard n ss (Some x) e h = sym (first_hard x.1 (listed n ss) (e.2 h))

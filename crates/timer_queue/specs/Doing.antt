@@ -8,6 +8,7 @@
 --     Leaves r ..           a refusal leaves the queue with all its slots, and the alarm's clock and due time, as they were
 --     Greedily s t r fs     an accepted advance to t woke at the textbook greedy's points for the pending windows that end before t
 use Rattle.std.specs.Prelude.{◌≡◌, ℕ, Bool, List, [], ◌∷◌, ◌++◌, length, take, drop, Ok, Err, filter, Option, Result}
+use Rattle.times.specs.declared.order.Time.{Ghosts}
 use Rattle.queue_rules.specs.declared.fault.QueueFault.{QueueFault}
 use Rattle.queue_rules.specs.declared.firing.Firing.{Firing}
 use Rattle.timer_queue.specs.declared.queue.TimerQueue.{TimerQueue}
@@ -15,7 +16,7 @@ use Rattle.queue_rules.specs.Calls.{State, Outcome}
 use Rattle.queue_rules.specs.Claims.{Claims}
 use Rattle.queue_rules.specs.Events.{Deed, Event, event, counts, Lived}
 use Rattle.queue_rules.specs.Greedy.{Greedy, wake_times}
-use Rattle.timer_queue.specs.Queues.{state_of, Sound}
+use Rattle.timer_queue.specs.Queues.{state_of}
 
 abbrev pub gives : {R A : Type 0} → Result R QueueFault → State A → List (Firing A) → Outcome R A
 gives r s fs = record { answer = r; left = s; logged = fs }
@@ -26,12 +27,13 @@ written r log = take (counts r).1 log
 abbrev pub unwritten : {X : Type 0} → Result (ℕ × ℕ) QueueFault → List X → List X
 unwritten r log = drop (counts r).1 log
 
-abbrev pub Leaves : {R A : Type 0} → Result R QueueFault → TimerQueue A → TimerQueue A → A → A → Option A → Option A → Type 0
-Leaves (Ok r) q q' c c' d d' = Unit {0}
-Leaves (Err f) q q' c c' d d' = (q' ≡ q) × (c' ≡ c) × (d' ≡ d)
+module _ {A : Type 0} {G : Ghosts A} where
+  abbrev pub Leaves : {R : Type 0} → Result R QueueFault → TimerQueue A G → TimerQueue A G → A → A → Option A → Option A → Type 0
+  Leaves (Ok r) q q' c c' d d' = Unit {0}
+  Leaves (Err f) q q' c c' d d' = (q' ≡ q) × (c' ≡ c) × (d' ≡ d)
 
-abbrev pub state_with : {S A : Type 0} → (S → A) → (S → Option A) → TimerQueue A → S → State A
-state_with clock due q a = state_of q (clock a) (due a)
+  abbrev pub state_with : {S : Type 0} → (S → A) → (S → Option A) → TimerQueue A G → S → State A
+  state_with clock due q a = state_of q (clock a) (due a)
 
 module _ {A : Type 0} (before : A → A → Bool) where
   abbrev pub Carries : State A → Event A → State A → Type 0
@@ -43,8 +45,7 @@ module _ {A : Type 0} (before : A → A → Bool) where
   Greedily s t (Ok n) fs = Greedy before (filter (λ x. before x.hard t) s.pending) (wake_times fs) × (n.0 ≡ length (wake_times fs))
   Greedily s t (Err f) fs = fs ≡ []
 
-  module _ {S : Type 0} (clock : S → A) (due : S → Option A) (q q' : TimerQueue A) (a a' : S) where
+  module _ {G : Ghosts A} {S : Type 0} (clock : S → A) (due : S → Option A) (q q' : TimerQueue A G) (a a' : S) where
     pub record Done {R : Type 0} (call : State A → Outcome R A) (r : Result R QueueFault) (fs : List (Firing A)) (d : Deed A) : Type 0 where
       pub outcome : call (state_with clock due q a) ≡ gives r (state_with clock due q' a') fs
-      pub sound : Sound before q'
       pub history : Carries (state_with clock due q a) (event d (clock a')) (state_with clock due q' a')

@@ -70,8 +70,5 @@ pub(crate) fn least<T: Time>(slots: &[Slot<T>], pending: u16) -> Option<T>
     requires { Standing pending slots.now }
     ensures { BothHeaped T.Time.before pending slots.now → result ≡ least_hard T.Time.before (listed pending slots.now) }
 {
-    match first_by_hard(slots, pending) {
-        Some((_, first)) => Some(first.hard),
-        None => None,
-    }
+    first_by_hard(slots, pending).map(|(_, first)| first.hard)
 }

@@ -28,11 +28,11 @@ impl<T: Plain> OpenRun<T> {
         line: &[u8],
         log: &mut [Firing<T>],
     ) -> Result<(u16, u16), RunFault>
-        ensures told { Sound T.Time.before queue.old → told T.Plain.plain result log.new ≡ forget (line_effect (kind_by T.Time.before T.Plain.reads T.Plain.plain T.Measured.place T.Measured.at T.Measured.last) (length log.old) (opened_with A.Alarm.clock A.Alarm.due self.old.closing queue.old alarm.old) line.now) }
-        ensures left { Sound T.Time.before queue.old → opened_with A.Alarm.clock A.Alarm.due self.new.closing queue.new alarm.new ≡ effect_left (line_effect (kind_by T.Time.before T.Plain.reads T.Plain.plain T.Measured.place T.Measured.at T.Measured.last) (length log.old) (opened_with A.Alarm.clock A.Alarm.due self.old.closing queue.old alarm.old) line.now) (opened_with A.Alarm.clock A.Alarm.due self.old.closing queue.old alarm.old) }
+        ensures told { Sound T.Time.before queue.old → told T.Plain.plain result log.new ≡ forget (line_effect (kind_by T.Time.before T.Plain.reads T.Plain.plain T.Measured.place T.Measured.at T.Measured.last) (length log.old) (opened_with A.Device.clock A.Device.due self.old.closing queue.old alarm.old) line.now) }
+        ensures left { Sound T.Time.before queue.old → opened_with A.Device.clock A.Device.due self.new.closing queue.new alarm.new ≡ effect_left (line_effect (kind_by T.Time.before T.Plain.reads T.Plain.plain T.Measured.place T.Measured.at T.Measured.last) (length log.old) (opened_with A.Device.clock A.Device.due self.old.closing queue.old alarm.old) line.now) (opened_with A.Device.clock A.Device.due self.old.closing queue.old alarm.old) }
         ensures sound { Sound T.Time.before queue.old → Sound T.Time.before queue.new }
         ensures few { IfOk result (λ n. (n.0 ≤ length (queue_timers queue.old)) × (n.1 ≤ length (queue_timers queue.old)) × (n.1 ≤ length log.old)) }
-        ensures refused { Untouched result queue.old queue.new (A.Alarm.clock alarm.old) (A.Alarm.clock alarm.new) (A.Alarm.due alarm.old) (A.Alarm.due alarm.new) log.old log.new }
+        ensures refused { Untouched result queue.old queue.new (A.Device.clock alarm.old) (A.Device.clock alarm.new) (A.Device.due alarm.old) (A.Device.due alarm.new) log.old log.new }
         ensures spared { Spared queue.old.inner queue.new.inner }
         ensures counts { self.new.counts ≡ self.old.counts }
     {
@@ -51,11 +51,11 @@ impl<T: Plain> OpenRun<T> {
         log: &mut [Firing<T>],
         buffer: &mut [u8],
     ) -> Replied
-        ensures reply { Sound T.Time.before queue.old → RepliedBy (open_line (kind_by T.Time.before T.Plain.reads T.Plain.plain T.Measured.place T.Measured.at T.Measured.last) (length buffer.old) (length log.old) (tally_of self.old.counts) (opened_with A.Alarm.clock A.Alarm.due self.old.closing queue.old alarm.old) line.now) (tally_of self.new.counts) (opened_with A.Alarm.clock A.Alarm.due self.new.closing queue.new alarm.new) buffer.old buffer.new result }
+        ensures reply { Sound T.Time.before queue.old → RepliedBy (open_line (kind_by T.Time.before T.Plain.reads T.Plain.plain T.Measured.place T.Measured.at T.Measured.last) (length buffer.old) (length log.old) (tally_of self.old.counts) (opened_with A.Device.clock A.Device.due self.old.closing queue.old alarm.old) line.now) (tally_of self.new.counts) (opened_with A.Device.clock A.Device.due self.new.closing queue.new alarm.new) buffer.old buffer.new result }
         ensures sound { Sound T.Time.before queue.old → Sound T.Time.before queue.new }
-        ensures history { Sound T.Time.before queue.old → CarriesOn (kind_by T.Time.before T.Plain.reads T.Plain.plain T.Measured.place T.Measured.at T.Measured.last) (state_with A.Alarm.clock A.Alarm.due queue.old alarm.old) (line_events (kind_by T.Time.before T.Plain.reads T.Plain.plain T.Measured.place T.Measured.at T.Measured.last) (length buffer.old) (length log.old) (tally_of self.old.counts) (opened_with A.Alarm.clock A.Alarm.due self.old.closing queue.old alarm.old) line.now) (state_with A.Alarm.clock A.Alarm.due queue.new alarm.new) }
+        ensures history { Sound T.Time.before queue.old → CarriesOn (kind_by T.Time.before T.Plain.reads T.Plain.plain T.Measured.place T.Measured.at T.Measured.last) (state_with A.Device.clock A.Device.due queue.old alarm.old) (line_events (kind_by T.Time.before T.Plain.reads T.Plain.plain T.Measured.place T.Measured.at T.Measured.last) (length buffer.old) (length log.old) (tally_of self.old.counts) (opened_with A.Device.clock A.Device.due self.old.closing queue.old alarm.old) line.now) (state_with A.Device.clock A.Device.due queue.new alarm.new) }
         ensures within { result.written ≤ length buffer.old }
-        ensures refused { Untouched result.answer queue.old queue.new (A.Alarm.clock alarm.old) (A.Alarm.clock alarm.new) (A.Alarm.due alarm.old) (A.Alarm.due alarm.new) log.old log.new }
+        ensures refused { Untouched result.answer queue.old queue.new (A.Device.clock alarm.old) (A.Device.clock alarm.new) (A.Device.due alarm.old) (A.Device.due alarm.new) log.old log.new }
         ensures spared { Spared queue.old.inner queue.new.inner }
     {
         if let Some(fault) = self.counts.unanswered(buffer.len(), queue.pending()) {

@@ -48,8 +48,8 @@ impl WaitingRun {
         queue: &mut TimerQueue<'_, T>,
         alarm: &mut A,
     ) -> Result<OpenRun<T>, (WaitingRun, RunFault)>
-        ensures opens { Opens (startable self.accepted T.NamedTime.kind (T.Plain.plain (A.Alarm.clock alarm.old))) self result }
-        ensures started { MatchResult result (λ _. Started T.Time.before A.Alarm.clock A.Alarm.due queue.old queue.new alarm.old alarm.new) (λ _. (queue.new ≡ queue.old) × (A.Alarm.clock alarm.new ≡ A.Alarm.clock alarm.old) × (A.Alarm.due alarm.new ≡ A.Alarm.due alarm.old)) }
+        ensures opens { Opens (startable self.accepted T.NamedTime.kind (T.Plain.plain (A.Device.clock alarm.old))) self result }
+        ensures started { MatchResult result (λ _. Started T.Time.before A.Device.clock A.Device.due queue.old queue.new alarm.old alarm.new) (λ _. (queue.new ≡ queue.old) × (A.Device.clock alarm.new ≡ A.Device.clock alarm.old) × (A.Device.due alarm.new ≡ A.Device.due alarm.old)) }
         ensures spared { Spared queue.old.inner queue.new.inner }
     {
         match self.open_at(alarm.clock()) {

@@ -12,13 +12,7 @@ started_so before u u' xs c c' d p q r e =
     subst (λ x. Lived before u c [] (view u' xs c' x)) (sym e)
     (subst (λ x. Lived before u c [] (view u' xs x None)) (sym r) (subst (λ x. Lived before u c [] (view u' x c None)) (sym q) (subst (λ x. Lived before u c [] (view x [] c None)) (sym p) starting)))
 
-pub returns : goal.returns
-returns g c =
-    let none : held_timers c.clear.new.inner ≡ [] = search rules in
-    record {
-      timers = none;
-      sound = search rules;
-      alarm = c.clear-2.ensures;
-      spared = c.clear.ensures.spared;
-      history = started_so g.T.Time.before _ _ _ _ _ _ c.clear.ensures.spared.usable none c.clear-2.ensures.clocked c.clear-2.ensures.timed;
-    }
+pub returns-clause-history : goal.returns-clause-history
+returns-clause-history g c =
+    let none : held_timers c.clear.new.self ≡ [] = search rules in
+    started_so g.T.Time.before _ _ _ _ _ _ c.clear.ensures.spared.usable none c.clear-2.ensures.clocked c.clear-2.ensures.timed
