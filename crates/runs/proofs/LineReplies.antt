@@ -2,6 +2,7 @@
 use Rattle.std.proofs.Common.{◌≡◌, ℕ, ◌≤◌, List, length, drop, Some, None, Ok, Err, Option, Result, sym, refl, ap, ◌∙◌, subst, arith}
 use Rattle.std.proofs.lemmas.List.{length-append, length-drop}
 use Rattle.queue_rules.specs.declared.firing.Firing.{Firing}
+use Rattle.times.specs.declared.order.Time.{Ghosts}
 use Rattle.timer_queue.specs.declared.queue.TimerQueue.{TimerQueue}
 use Rattle.runs.specs.declared.faults.RunFault.{RunFault}
 use Rattle.runs.specs.declared.replies.Refusal.{Refusal}
@@ -39,12 +40,12 @@ written_within reply t s old new r h e =
     omega (arith, length-append (text reply.frames) (drop r.written old), length-drop r.written old)
 
 -- what a refusal leaves, told of the queue's answer and of the line's
-module _ {A : Type 0} (plain : A → ℕ) (q q' : TimerQueue A) (c c' : A) (d d' : Option A) (l l' : List (Firing A)) where
+module _ {A : Type 0} {G : Ghosts A} (plain : A → ℕ) (q q' : TimerQueue A G) (c c' : A) (d d' : Option A) (l l' : List (Firing A)) where
   pub untouched_so : (t : Tally) (o : Result (ℕ × ℕ) RunFault) (a : Result (Unit {0}) Refusal) → a ≡ (heard t tt (told plain o l')).answered →
       Untouched o q q' c c' d d' l l' → Untouched a q q' c c' d d' l l'
   untouched_so t (Ok n) a e h = subst (λ (x : Result (Unit {0}) Refusal). Untouched x q q' c c' d d' l l') (sym e) tt
   untouched_so t (Err f) a e h = subst (λ (x : Result (Unit {0}) Refusal). Untouched x q q' c c' d d' l l') (sym e) h
 
-pub untouched_itself : {A : Type 0} (q : TimerQueue A) (c : A) (d : Option A) (l : List (Firing A)) (t : Tally) (f : RunFault) (a : Result (Unit {0}) Refusal) → a ≡ refusing t f →
+pub untouched_itself : {A : Type 0} {G : Ghosts A} (q : TimerQueue A G) (c : A) (d : Option A) (l : List (Firing A)) (t : Tally) (f : RunFault) (a : Result (Unit {0}) Refusal) → a ≡ refusing t f →
     Untouched a q q c c d d l l
 untouched_itself q c d l t f a e = subst (λ (x : Result (Unit {0}) Refusal). Untouched x q q c c d d l l) (sym e) (refl, refl, refl, refl)

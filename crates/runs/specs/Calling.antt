@@ -8,6 +8,7 @@
 --     Started ..            the queue was started with the alarm, whose clock stays: nothing is pending, and a history begins
 --     Untouched ..          a refused line leaves the queue with all its slots, the alarm's clock and due time, and the log
 use Rattle.std.specs.Prelude.{◌≡◌, ℕ, Bool, List, [], ◌∷◌, ◌++◌, length, Some, None, Ok, Err, Option, Result}
+use Rattle.times.specs.declared.order.Time.{Ghosts}
 use Rattle.alarms.specs.Meaning.{Clears}
 use Rattle.queue_rules.specs.declared.firing.Firing.{Firing}
 use Rattle.queue_rules.specs.Calls.{State}
@@ -15,7 +16,7 @@ use Rattle.queue_rules.specs.Claims.{Claims}
 use Rattle.queue_rules.specs.Events.{Event, arm_event, cancel_event, advance_event, Lived}
 use Rattle.timer_queue.specs.declared.queue.TimerQueue.{TimerQueue}
 use Rattle.timer_queue.specs.Doing.{state_with}
-use Rattle.timer_queue.specs.Queues.{queue_timers, Sound}
+use Rattle.timer_queue.specs.Queues.{queue_timers}
 use Rattle.runs.specs.declared.faults.RunFault.{RunFault}
 use Rattle.runs.specs.declared.steps.Step.{Step}
 use Rattle.runs.specs.declared.steps.Step.TheVariants.{Arm, Cancel, Advance, Close}
@@ -23,14 +24,14 @@ use Rattle.runs.specs.Hearing.{and_then}
 use Rattle.runs.specs.Opened.{Opened, Kind, carried_out, step_in}
 use Rattle.runs.specs.Replies.{Tally, Effect, unanswered}
 
-abbrev pub opened_with : {S A : Type 0} → (S → A) → (S → Option A) → Bool → TimerQueue A → S → Opened A
+abbrev pub opened_with : {S A : Type 0} {G : Ghosts A} → (S → A) → (S → Option A) → Bool → TimerQueue A G → S → Opened A
 opened_with clock due closing q a = record { closing = closing; queue = state_with clock due q a }
 
 abbrev pub effect_left : {S : Type 0} → Result (Effect S) RunFault → S → S
 effect_left (Ok e) s = e.left
 effect_left (Err f) s = s
 
-abbrev pub Untouched : {R E A : Type 0} → Result R E → TimerQueue A → TimerQueue A → A → A → Option A → Option A → List (Firing A) → List (Firing A) → Type 0
+abbrev pub Untouched : {R E A : Type 0} {G : Ghosts A} → Result R E → TimerQueue A G → TimerQueue A G → A → A → Option A → Option A → List (Firing A) → List (Firing A) → Type 0
 Untouched (Ok r) q q' c c' d d' l l' = Unit {0}
 Untouched (Err f) q q' c c' d d' l l' = (q' ≡ q) × (c' ≡ c) × (d' ≡ d) × (l' ≡ l)
 
@@ -61,8 +62,7 @@ module _ {A : Type 0} (k : Kind A) where
       (u : ℕ) (c : A) (past : List (Event A)) → Lived k.before u c past s →
       Lived k.before u c (past ++ es) s' × Claims k.before c (past ++ es)
 
-pub record Started {S A : Type 0} (before : A → A → Bool) (clock : S → A) (due : S → Option A) (q q' : TimerQueue A) (a a' : S) : Type 0 where
+pub record Started {S A : Type 0} {G : Ghosts A} (before : A → A → Bool) (clock : S → A) (due : S → Option A) (q q' : TimerQueue A G) (a a' : S) : Type 0 where
   pub timers : queue_timers q' ≡ []
-  pub sound : Sound before q'
   pub alarm : Clears clock due a a'
-  pub history : Lived before q.inner.usable (clock a) [] (state_with clock due q' a')
+  pub history : Lived before (length q.inner.slots.now) (clock a) [] (state_with clock due q' a')

@@ -29,6 +29,10 @@ pub record Kind (A : Type 0) : Type 0 where
 abbrev pub kind_by : {A : Type 0} → (A → A → Bool) → (ℕ → Option A) → (A → ℕ) → (A → ℕ) → (ℕ → Option A) → A → Kind A
 kind_by before reads plain place at last = record { before = before; reads = reads; plain = plain; ahead = capped place at last }
 
+-- a kind of time as a bound gives it
+abbrev pub kind_of_time : {A : Type 0} → record { before : A → A → Bool; place : A → ℕ; at : ℕ → Option A; last : A; plain : A → ℕ; reads : ℕ → Option A } → Kind A
+kind_of_time t = kind_by t.before t.reads t.plain t.place t.at t.last
+
 module _ {A : Type 0} (k : Kind A) where
   -- what a call of the queue does that answers these wake-ups and firings
   abbrev pub effect_of : {R : Type 0} → (R → ℕ × ℕ) → Result R QueueFault → Outcome R A → Result (Effect (Opened A)) RunFault

@@ -2,7 +2,7 @@
 ghost use Rattle.std.specs.Prelude.{◌≡◌, false, length};
 ghost use Rattle.timer_queue.specs.Queues.{queue_timers};
 ghost use Rattle.runs.specs.Moves.{Closes};
-ghost use Rattle.runs.specs.Opened.{kind_by, step_in};
+ghost use Rattle.runs.specs.Opened.{kind_of_time, step_in};
 
 use crate::closed::ClosedRun;
 use crate::counts::Counts;
@@ -43,7 +43,7 @@ impl<T: Plain> OpenRun<T> {
 
     // What a line asks for at this clock, or why it asks for nothing.
     pub(crate) fn step(&self, line: &[u8], clock: T) -> Result<Step<T>, RunFault>
-        ensures { result ≡ step_in (kind_by T.Time.before T.Plain.reads T.Plain.plain T.Measured.place T.Measured.at T.Measured.last) self.now.closing clock line.now }
+        ensures { result ≡ step_in (kind_of_time T.Plain) self.now.closing clock line.now }
     {
         if self.closing {
             return Err(RunFault::NotNow);

@@ -3,15 +3,15 @@ ghost use Rattle.std.specs.Prelude.{◌≡◌, ◌≤◌, Bool, true, false, len
 ghost use Rattle.queue_rules.specs.declared.firing.Firing.{Firing};
 ghost use Rattle.timer_queue.specs.Doing.{state_with};
 ghost use Rattle.timer_queue.specs.Inners.{Spared};
-ghost use Rattle.timer_queue.specs.Queues.{queue_timers, Sound};
+ghost use Rattle.timer_queue.specs.Queues.{queue_timers};
 ghost use Rattle.runs.specs.Calling.{opened_with, effect_left, Untouched};
 ghost use Rattle.runs.specs.Finishing.{told};
-ghost use Rattle.runs.specs.Opened.{kind_by, carried_out};
+ghost use Rattle.runs.specs.Opened.{kind_of_time, carried_out};
 ghost use Rattle.runs.specs.Performing.{closing_step, forget};
 
 use crate::faults::RunFault;
 use crate::steps::Step;
-use alarms::Alarm;
+use alarms::{Alarm, Device};
 use queue_rules::firing::Firing;
 use timer_queue::queue::TimerQueue;
 use times::Plain;
@@ -33,9 +33,8 @@ pub(crate) fn perform<T: Plain, A: Alarm<T>>(
     step: Step<T>,
     log: &mut [Firing<T>],
 ) -> Result<(u16, u16), RunFault>
-    ensures told { Sound T.Time.before queue.old → told T.Plain.plain result log.new ≡ forget (carried_out (kind_by T.Time.before T.Plain.reads T.Plain.plain T.Measured.place T.Measured.at T.Measured.last) (length log.old) (state_with A.Device.clock A.Device.due queue.old alarm.old) step) }
-    ensures left { Sound T.Time.before queue.old → OnOk result (opened_with A.Device.clock A.Device.due (closing_step step) queue.new alarm.new ≡ effect_left (carried_out (kind_by T.Time.before T.Plain.reads T.Plain.plain T.Measured.place T.Measured.at T.Measured.last) (length log.old) (state_with A.Device.clock A.Device.due queue.old alarm.old) step) (opened_with A.Device.clock A.Device.due false queue.old alarm.old)) }
-    ensures sound { Sound T.Time.before queue.old → Sound T.Time.before queue.new }
+    ensures told { told T.Plain.plain result log.new ≡ forget (carried_out (kind_of_time T.Plain) (length log.old) (state_with A.Device.clock A.Device.due queue.old alarm.old) step) }
+    ensures left { OnOk result (opened_with A.Device.clock A.Device.due (closing_step step) queue.new alarm.new ≡ effect_left (carried_out (kind_of_time T.Plain) (length log.old) (state_with A.Device.clock A.Device.due queue.old alarm.old) step) (opened_with A.Device.clock A.Device.due false queue.old alarm.old)) }
     ensures few { IfOk result (λ n. (n.0 ≤ length (queue_timers queue.old)) × (n.1 ≤ length (queue_timers queue.old)) × (n.1 ≤ length log.old)) }
     ensures refused { Untouched result queue.old queue.new (A.Device.clock alarm.old) (A.Device.clock alarm.new) (A.Device.due alarm.old) (A.Device.due alarm.new) log.old log.new }
     ensures spared { Spared queue.old.inner queue.new.inner }

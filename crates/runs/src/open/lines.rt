@@ -2,10 +2,10 @@
 ghost use Rattle.std.specs.Prelude.{◌≡◌, ◌≤◌, Bool, length, IfOk};
 ghost use Rattle.timer_queue.specs.Doing.{state_with};
 ghost use Rattle.timer_queue.specs.Inners.{Spared};
-ghost use Rattle.timer_queue.specs.Queues.{queue_timers, Sound};
+ghost use Rattle.timer_queue.specs.Queues.{queue_timers};
 ghost use Rattle.runs.specs.Calling.{opened_with, line_effect, effect_left, line_events, CarriesOn, Untouched};
 ghost use Rattle.runs.specs.Finishing.{told};
-ghost use Rattle.runs.specs.Opened.{kind_by, open_line};
+ghost use Rattle.runs.specs.Opened.{kind_of_time, open_line};
 ghost use Rattle.runs.specs.Performing.{forget};
 ghost use Rattle.runs.specs.Replies.{tally_of, RepliedBy};
 
@@ -14,7 +14,7 @@ use crate::faults::RunFault;
 use crate::finishing::finish;
 use crate::performing::{closes, perform};
 use crate::replies::{Replied, ignore};
-use alarms::Alarm;
+use alarms::{Alarm, Device};
 use queue_rules::firing::Firing;
 use timer_queue::queue::TimerQueue;
 use times::Plain;
@@ -28,9 +28,8 @@ impl<T: Plain> OpenRun<T> {
         line: &[u8],
         log: &mut [Firing<T>],
     ) -> Result<(u16, u16), RunFault>
-        ensures told { Sound T.Time.before queue.old → told T.Plain.plain result log.new ≡ forget (line_effect (kind_by T.Time.before T.Plain.reads T.Plain.plain T.Measured.place T.Measured.at T.Measured.last) (length log.old) (opened_with A.Device.clock A.Device.due self.old.closing queue.old alarm.old) line.now) }
-        ensures left { Sound T.Time.before queue.old → opened_with A.Device.clock A.Device.due self.new.closing queue.new alarm.new ≡ effect_left (line_effect (kind_by T.Time.before T.Plain.reads T.Plain.plain T.Measured.place T.Measured.at T.Measured.last) (length log.old) (opened_with A.Device.clock A.Device.due self.old.closing queue.old alarm.old) line.now) (opened_with A.Device.clock A.Device.due self.old.closing queue.old alarm.old) }
-        ensures sound { Sound T.Time.before queue.old → Sound T.Time.before queue.new }
+        ensures told { told T.Plain.plain result log.new ≡ forget (line_effect (kind_of_time T.Plain) (length log.old) (opened_with A.Device.clock A.Device.due self.old.closing queue.old alarm.old) line.now) }
+        ensures left { opened_with A.Device.clock A.Device.due self.new.closing queue.new alarm.new ≡ effect_left (line_effect (kind_of_time T.Plain) (length log.old) (opened_with A.Device.clock A.Device.due self.old.closing queue.old alarm.old) line.now) (opened_with A.Device.clock A.Device.due self.old.closing queue.old alarm.old) }
         ensures few { IfOk result (λ n. (n.0 ≤ length (queue_timers queue.old)) × (n.1 ≤ length (queue_timers queue.old)) × (n.1 ≤ length log.old)) }
         ensures refused { Untouched result queue.old queue.new (A.Device.clock alarm.old) (A.Device.clock alarm.new) (A.Device.due alarm.old) (A.Device.due alarm.new) log.old log.new }
         ensures spared { Spared queue.old.inner queue.new.inner }
@@ -51,9 +50,8 @@ impl<T: Plain> OpenRun<T> {
         log: &mut [Firing<T>],
         buffer: &mut [u8],
     ) -> Replied
-        ensures reply { Sound T.Time.before queue.old → RepliedBy (open_line (kind_by T.Time.before T.Plain.reads T.Plain.plain T.Measured.place T.Measured.at T.Measured.last) (length buffer.old) (length log.old) (tally_of self.old.counts) (opened_with A.Device.clock A.Device.due self.old.closing queue.old alarm.old) line.now) (tally_of self.new.counts) (opened_with A.Device.clock A.Device.due self.new.closing queue.new alarm.new) buffer.old buffer.new result }
-        ensures sound { Sound T.Time.before queue.old → Sound T.Time.before queue.new }
-        ensures history { Sound T.Time.before queue.old → CarriesOn (kind_by T.Time.before T.Plain.reads T.Plain.plain T.Measured.place T.Measured.at T.Measured.last) (state_with A.Device.clock A.Device.due queue.old alarm.old) (line_events (kind_by T.Time.before T.Plain.reads T.Plain.plain T.Measured.place T.Measured.at T.Measured.last) (length buffer.old) (length log.old) (tally_of self.old.counts) (opened_with A.Device.clock A.Device.due self.old.closing queue.old alarm.old) line.now) (state_with A.Device.clock A.Device.due queue.new alarm.new) }
+        ensures reply { RepliedBy (open_line (kind_of_time T.Plain) (length buffer.old) (length log.old) (tally_of self.old.counts) (opened_with A.Device.clock A.Device.due self.old.closing queue.old alarm.old) line.now) (tally_of self.new.counts) (opened_with A.Device.clock A.Device.due self.new.closing queue.new alarm.new) buffer.old buffer.new result }
+        ensures history { CarriesOn (kind_of_time T.Plain) (state_with A.Device.clock A.Device.due queue.old alarm.old) (line_events (kind_of_time T.Plain) (length buffer.old) (length log.old) (tally_of self.old.counts) (opened_with A.Device.clock A.Device.due self.old.closing queue.old alarm.old) line.now) (state_with A.Device.clock A.Device.due queue.new alarm.new) }
         ensures within { result.written ≤ length buffer.old }
         ensures refused { Untouched result.answer queue.old queue.new (A.Device.clock alarm.old) (A.Device.clock alarm.new) (A.Device.due alarm.old) (A.Device.due alarm.new) log.old log.new }
         ensures spared { Spared queue.old.inner queue.new.inner }

@@ -10,7 +10,7 @@ use crate::faults::RunFault;
 use crate::kinds::NamedTime;
 use crate::open::OpenRun;
 use crate::opening::{Opening, TimeKind};
-use alarms::Alarm;
+use alarms::{Alarm, Device};
 use timer_queue::queue::TimerQueue;
 
 // Whether an accepted open frame asked for this kind of time, and for a start at this clock.

@@ -1,11 +1,11 @@
-use Rattle.std.proofs.Common.{◌≡◌, ℕ, List, length, Some, None, Option, ap, ◌∙◌, subst, arith, rules}
+use Rattle.std.proofs.Common.{◌≡◌, ℕ, List, length, Some, None, Option, refl, ap, ◌∙◌, subst, arith, rules}
 use Rattle.queue_rules.specs.Lists.{sorted}
 use Rattle.queue_rules.specs.Timers.{by_number}
 use Rattle.queue_rules.proofs.Rearranged.{length_rearranged}
 use Rattle.queue_rules.proofs.Sorting.{sorted_rearranged}
+use Rattle.times.specs.declared.order.Time.{Ghosts}
 use Rattle.timer_queue.specs.declared.queue.TimerQueue.{TimerQueue}
-use Rattle.timer_queue.specs.Queues.{queue_timers, Sound}
-use Rattle.timer_queue.proofs.Refused.{spared_itself}
+use Rattle.timer_queue.specs.Queues.{queue_timers}
 use Rattle.runs.specs.declared.counts.Counts.{Counts}
 use Rattle.runs.specs.declared.faults.RunFault.{RunFault}
 use Rattle.runs.specs.Calling.{opened_with, line_effect}
@@ -17,14 +17,14 @@ use Rattle.runs.proofs.LineReplies.{ignored, answered, untouched_so, untouched_i
 use Rattle.runs.proofs.open.OpenRun.line.Goals as goal
 
 -- as many timers are pending as the state lists
-listed_size : {A : Type 0} (q : TimerQueue A) (n room : ℕ) (t : Tally) (f : Option RunFault) → n ≡ length (queue_timers q) → f ≡ unanswered room n t →
+listed_size : {A : Type 0} {G : Ghosts A} (q : TimerQueue A G) (n room : ℕ) (t : Tally) (f : Option RunFault) → n ≡ length (queue_timers q) → f ≡ unanswered room n t →
     f ≡ unanswered room (length (sorted by_number (queue_timers q))) t
 listed_size q n room t f e u = u ∙ ap (λ m. unanswered room m t) (e ∙ length_rearranged (sorted_rearranged by_number (queue_timers q)))
 
 pub returns-in-Some : goal.returns-in-Some
 returns-in-Some g c =
     let k : Kind g.row.T.Denot = kind_by g.T.Time.before g.T.Plain.reads g.T.Plain.plain g.T.Measured.place g.T.Measured.at g.T.Measured.last in
-    let q : TimerQueue g.row.T.Denot = c.args.queue.now in
+    let q = c.args.queue.now in
     let a : g.row.A.Denot = c.args.alarm.now in
     let s : Opened g.row.T.Denot = opened_with g.A.Device.clock g.A.Device.due c.args.self.now.closing q a in
     let t : Tally = tally_of c.args.self.now.counts in
@@ -35,18 +35,17 @@ returns-in-Some g c =
     let reply = ignored room (length s.queue.pending) t t s s (line_effect k log s c.args.line.now) c.args.buffer.now c.args.buffer.now c.ignore.result f u
     c.ignore.ensures.written c.ignore.ensures.answer in
     record {
-      reply = λ h. reply;
-      sound = λ h. h;
-      history = λ h. line_carries k g.met.T.Time.ordered room log t s c.args.line.now s.queue (ap (λ (x : Opened g.row.T.Denot). x.queue) reply.left);
+      reply = reply;
+      history = line_carries k g.met.T.Time.ordered room log t s c.args.line.now s.queue (ap (λ (x : Opened g.row.T.Denot). x.queue) reply.left);
       within = omega (arith, c.ignore.ensures.written);
       refused = untouched_itself q _ _ c.args.log.now t f c.ignore.result.answer c.ignore.ensures.answer;
-      spared = spared_itself q.inner;
+      spared = record { usable = refl; spare = refl };
     }
 
 pub returns : goal.returns
 returns g c =
     let k : Kind g.row.T.Denot = kind_by g.T.Time.before g.T.Plain.reads g.T.Plain.plain g.T.Measured.place g.T.Measured.at g.T.Measured.last in
-    let q : TimerQueue g.row.T.Denot = c.args.queue.now in
+    let q = c.args.queue.now in
     let a : g.row.A.Denot = c.args.alarm.now in
     let did = c.carry_out-outcome.ensures in
     let s : Opened g.row.T.Denot = opened_with g.A.Device.clock g.A.Device.due c.args.self.now.closing q a in
@@ -61,13 +60,12 @@ returns g c =
     let done = told g.T.Plain.plain c.carry_out-outcome.result c.carry_out-outcome.new.log in
     let finished : RepliedBy (heard t tt done) t' tt c.args.buffer.now c.finish.new.buffer c.finish.result =
     subst (λ (x : Counts). RepliedBy (heard (tally_of x) tt done) t' tt c.args.buffer.now c.finish.new.buffer c.finish.result) did.counts c.finish.ensures in
-    let reply : Sound g.T.Time.before q → RepliedBy (open_line k room log t s line) t' s' c.args.buffer.now c.finish.new.buffer c.finish.result =
-    λ h. answered room (length s.queue.pending) t t' s s' (line_effect k log s line) c.args.buffer.now c.finish.new.buffer c.finish.result done u
-    (did.told h) finished (did.left h) in
+    let reply : RepliedBy (open_line k room log t s line) t' s' c.args.buffer.now c.finish.new.buffer c.finish.result =
+    answered room (length s.queue.pending) t t' s s' (line_effect k log s line) c.args.buffer.now c.finish.new.buffer c.finish.result done u
+    did.told finished did.left in
     record {
       reply = reply;
-      sound = did.sound;
-      history = λ h. line_carries k g.met.T.Time.ordered room log t s line s'.queue (ap (λ (x : Opened g.row.T.Denot). x.queue) (reply h).left);
+      history = line_carries k g.met.T.Time.ordered room log t s line s'.queue (ap (λ (x : Opened g.row.T.Denot). x.queue) reply.left);
       within = written_within _ _ _ c.args.buffer.now c.finish.new.buffer c.finish.result finished (search rules);
       refused = untouched_so g.T.Plain.plain q c.carry_out-outcome.new.queue _ _ _ _ c.args.log.now c.carry_out-outcome.new.log t c.carry_out-outcome.result
           c.finish.result.answer finished.answered did.refused;
