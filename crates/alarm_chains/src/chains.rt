@@ -4,7 +4,7 @@ ghost use Rattle.alarm_chains.specs.Chains.{Counted, chain_clock, chain_due, mov
 ghost use Rattle.alarms.specs.Meaning.{Passes};
 
 use crate::stages::{aim, follow, pass_silent};
-use alarms::{Alarm, AlarmFault, Device, Passage, ShortAlarm};
+use alarms::{Alarm, AlarmDevice, AlarmFault, Passage, ShortAlarm};
 use times::{Measured, Time};
 
 #[derive(Drop)]
@@ -16,8 +16,8 @@ pub struct ChainedAlarm<T, S> {
 
 impl<T: Measured, S: ShortAlarm<T>> ChainedAlarm<T, S> {
     pub fn new(mut device: S) -> Self
-        ensures clock { chain_clock S.Device.clock result ≡ S.Device.clock device }
-        ensures due { chain_due T.Time.before S.Device.due result ≡ None }
+        ensures clock { chain_clock S.AlarmDevice.clock result ≡ S.AlarmDevice.clock device }
+        ensures due { chain_due T.Time.before S.AlarmDevice.due result ≡ None }
     {
         device.clear();
         let goal = device.clock();
@@ -29,8 +29,8 @@ impl<T: Measured, S: ShortAlarm<T>> ChainedAlarm<T, S> {
 
     // Passes to `t`, and answers also how often the short alarm rang.
     pub fn pass_counted(&mut self, t: T) -> Result<(Passage, u64), AlarmFault>
-        ensures value { Passes T.Time.before (chain_clock S.Device.clock) (chain_due T.Time.before S.Device.due) self.old self.new t (uncounted result) }
-        ensures count { Counted S.ShortAlarm.reach (chain_due T.Time.before S.Device.due self.old) (moved T.Measured.place (chain_clock S.Device.clock) self.old self.new) result }
+        ensures value { Passes T.Time.before (chain_clock S.AlarmDevice.clock) (chain_due T.Time.before S.AlarmDevice.due) self.old self.new t (uncounted result) }
+        ensures count { Counted S.ShortAlarm.reach (chain_due T.Time.before S.AlarmDevice.due self.old) (moved T.Measured.place (chain_clock S.AlarmDevice.clock) self.old self.new) result }
     {
         if t.before(self.short.clock()) {
             return Err(AlarmFault::BeforeClock);
@@ -42,10 +42,10 @@ impl<T: Measured, S: ShortAlarm<T>> ChainedAlarm<T, S> {
     }
 }
 
-impl<T: Measured, S: ShortAlarm<T>> Device<T> for ChainedAlarm<T, S> {
-    ghost clock = { chain_clock S.Device.clock };
+impl<T: Measured, S: ShortAlarm<T>> AlarmDevice<T> for ChainedAlarm<T, S> {
+    ghost clock = { chain_clock S.AlarmDevice.clock };
 
-    ghost due = { chain_due T.Time.before S.Device.due };
+    ghost due = { chain_due T.Time.before S.AlarmDevice.due };
 
     fn clock(&self) -> T {
         self.short.clock()

@@ -4,12 +4,12 @@ ghost use Rattle.times.specs.Places.{Agrees, capped};
 ghost use Rattle.alarm_chains.specs.Chains.{Counted, goal_due, moved, stage_to, uncounted};
 ghost use Rattle.alarms.specs.Meaning.{Gives, Sets, pass_to};
 
-use alarms::{AlarmFault, Device, Passage, ShortAlarm};
+use alarms::{AlarmDevice, AlarmFault, Passage, ShortAlarm};
 use times::{Measured, Time};
 
 // Sets the short alarm to the goal, or as far ahead as it reaches if the goal is further.
 pub(crate) fn aim<T: Measured, S: ShortAlarm<T>>(short: &mut S, goal: T) -> Result<(), AlarmFault>
-    ensures value { Sets T.Time.before S.Device.clock S.Device.due short.old short.new (stage_to T.Time.before (capped T.Measured.place T.Measured.at T.Measured.last (S.Device.clock short.old) S.ShortAlarm.reach) goal) result }
+    ensures value { Sets T.Time.before S.AlarmDevice.clock S.AlarmDevice.due short.old short.new (stage_to T.Time.before (capped T.Measured.place T.Measured.at T.Measured.last (S.AlarmDevice.clock short.old) S.ShortAlarm.reach) goal) result }
     ensures agrees { Agrees T.Time.before T.Measured.place }
 {
     let furthest = short.clock().ahead(S::reach());
@@ -25,10 +25,10 @@ pub(crate) fn follow<T: Measured, S: ShortAlarm<T>>(
     goal: T,
     t: T,
 ) -> Result<(Passage, u64), AlarmFault>
-    requires forward { T.Time.before t (S.Device.clock short.old) ≡ false }
-    requires ahead { T.Time.before goal (S.Device.clock short.old) ≡ false }
-    ensures value { Gives (pass_to T.Time.before (S.Device.clock short.old) (Some goal) t) (uncounted result) (S.Device.clock short.new) (goal_due T.Time.before (S.Device.due short.new) goal) }
-    ensures count { Counted S.ShortAlarm.reach (Some goal) (moved T.Measured.place S.Device.clock short.old short.new) result }
+    requires forward { T.Time.before t (S.AlarmDevice.clock short.old) ≡ false }
+    requires ahead { T.Time.before goal (S.AlarmDevice.clock short.old) ≡ false }
+    ensures value { Gives (pass_to T.Time.before (S.AlarmDevice.clock short.old) (Some goal) t) (uncounted result) (S.AlarmDevice.clock short.new) (goal_due T.Time.before (S.AlarmDevice.due short.new) goal) }
+    ensures count { Counted S.ShortAlarm.reach (Some goal) (moved T.Measured.place S.AlarmDevice.clock short.old short.new) result }
 {
     aim(short, goal)?;
     let mut rings = 0;
@@ -47,7 +47,7 @@ pub(crate) fn pass_silent<T: Measured, S: ShortAlarm<T>>(
     short: &mut S,
     t: T,
 ) -> Result<Passage, AlarmFault>
-    ensures { Gives (pass_to T.Time.before (S.Device.clock short.old) None t) result (S.Device.clock short.new) (S.Device.due short.new) }
+    ensures { Gives (pass_to T.Time.before (S.AlarmDevice.clock short.old) None t) result (S.AlarmDevice.clock short.new) (S.AlarmDevice.due short.new) }
 {
     short.clear();
     short.pass(t)

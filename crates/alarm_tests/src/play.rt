@@ -1,5 +1,5 @@
 // A table of calls, with what each is to answer and leave, played on a device.
-use alarms::{AlarmFault, Device, Passage};
+use alarms::{AlarmDevice, AlarmFault, Passage};
 use std::process::Abort;
 use std::test::Fail;
 use times::Plain;
@@ -28,7 +28,7 @@ pub const BEYOND_REACH: Answer = Err(AlarmFault::BeyondReach);
 pub type Row = (Call, Answer, u64, Option<u64>);
 
 // `set` is the call by which this device is set: an alarm's or a short alarm's.
-pub(crate) fn play<T: Plain, D: Device<T>, S: Fn(&mut D, T) -> Result<(), AlarmFault>>(
+pub(crate) fn play<T: Plain, D: AlarmDevice<T>, S: Fn(&mut D, T) -> Result<(), AlarmFault>>(
     rt: &impl Abort,
     device: &mut D,
     rows: &[Row],

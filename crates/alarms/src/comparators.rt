@@ -2,7 +2,7 @@
 ghost use Rattle.std.specs.Prelude.{◌≡◌, None};
 ghost use Rattle.alarms.specs.Comparators.{compare_due};
 
-use crate::device::Device;
+use crate::alarm_device::AlarmDevice;
 use crate::faults::{AlarmFault, Passage};
 use crate::meaning::Alarm;
 use crate::steps::ring_before;
@@ -26,7 +26,7 @@ impl<T: Time> Comparator<T> {
     }
 }
 
-impl<T: Time> Device<T> for Comparator<T> {
+impl<T: Time> AlarmDevice<T> for Comparator<T> {
     ghost clock = { λ a. a.clock };
 
     ghost due = { λ a. compare_due T.Time.before a.clock a.compare };

@@ -2,11 +2,11 @@
 ghost use Rattle.std.specs.Prelude.{◌≡◌, ℕ, ◌<◌};
 ghost use Rattle.alarms.specs.Meaning.{SetsWithin};
 
-use crate::device::Device;
+use crate::alarm_device::AlarmDevice;
 use crate::faults::AlarmFault;
 use times::Measured;
 
-pub trait ShortAlarm<T: Measured>: Device<T> {
+pub trait ShortAlarm<T: Measured>: AlarmDevice<T> {
     ghost reach: { ℕ };
 
     fn reach() -> u32

@@ -11,7 +11,7 @@ ghost use Rattle.runs.specs.Performing.{closing_step, forget};
 
 use crate::faults::RunFault;
 use crate::steps::Step;
-use alarms::{Alarm, Device};
+use alarms::{Alarm, AlarmDevice};
 use queue_rules::firing::Firing;
 use timer_queue::queue::TimerQueue;
 use times::Plain;
@@ -33,10 +33,10 @@ pub(crate) fn perform<T: Plain, A: Alarm<T>>(
     step: Step<T>,
     log: &mut [Firing<T>],
 ) -> Result<(u16, u16), RunFault>
-    ensures told { told T.Plain.plain result log.new ≡ forget (carried_out (kind_of_time T.Plain) (length log.old) (state_with A.Device.clock A.Device.due queue.old alarm.old) step) }
-    ensures left { OnOk result (opened_with A.Device.clock A.Device.due (closing_step step) queue.new alarm.new ≡ effect_left (carried_out (kind_of_time T.Plain) (length log.old) (state_with A.Device.clock A.Device.due queue.old alarm.old) step) (opened_with A.Device.clock A.Device.due false queue.old alarm.old)) }
+    ensures told { told T.Plain.plain result log.new ≡ forget (carried_out (kind_of_time T.Plain) (length log.old) (state_with A.AlarmDevice.clock A.AlarmDevice.due queue.old alarm.old) step) }
+    ensures left { OnOk result (opened_with A.AlarmDevice.clock A.AlarmDevice.due (closing_step step) queue.new alarm.new ≡ effect_left (carried_out (kind_of_time T.Plain) (length log.old) (state_with A.AlarmDevice.clock A.AlarmDevice.due queue.old alarm.old) step) (opened_with A.AlarmDevice.clock A.AlarmDevice.due false queue.old alarm.old)) }
     ensures few { IfOk result (λ n. (n.0 ≤ length (queue_timers queue.old)) × (n.1 ≤ length (queue_timers queue.old)) × (n.1 ≤ length log.old)) }
-    ensures refused { Untouched result queue.old queue.new (A.Device.clock alarm.old) (A.Device.clock alarm.new) (A.Device.due alarm.old) (A.Device.due alarm.new) log.old log.new }
+    ensures refused { Untouched result queue.old queue.new (A.AlarmDevice.clock alarm.old) (A.AlarmDevice.clock alarm.new) (A.AlarmDevice.due alarm.old) (A.AlarmDevice.due alarm.new) log.old log.new }
     ensures spared { Spared queue.old.inner queue.new.inner }
 {
     match step {

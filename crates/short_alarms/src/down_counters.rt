@@ -4,7 +4,7 @@ ghost use Rattle.short_alarms.specs.Countdown.{due_in};
 ghost use Rattle.std.proofs.Common.{rules};
 
 use crate::reaches::ticks_within;
-use alarms::{AlarmFault, Device, Passage, ShortAlarm, ring_before};
+use alarms::{AlarmDevice, AlarmFault, Passage, ShortAlarm, ring_before};
 use times::{Measured, Time};
 
 const REACH: u16 = 65_535;
@@ -25,7 +25,7 @@ impl<T: Measured> DownCounter<T> {
     }
 }
 
-impl<T: Measured> Device<T> for DownCounter<T> {
+impl<T: Measured> AlarmDevice<T> for DownCounter<T> {
     ghost clock = { λ a. a.clock };
 
     ghost due = { λ a. due_in T.Measured.place T.Measured.at a.clock a.left };

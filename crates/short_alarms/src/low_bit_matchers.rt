@@ -7,7 +7,7 @@ ghost use Rattle.std.proofs.Common.{rules};
 
 use crate::low_bits::LowBits;
 use crate::reaches::ticks_within;
-use alarms::{AlarmFault, Device, Passage, ShortAlarm, ring_before};
+use alarms::{AlarmDevice, AlarmFault, Passage, ShortAlarm, ring_before};
 use times::{Measured, Time};
 
 const REACH: u16 = 4_095;
@@ -36,7 +36,7 @@ fn ticks_to_match(place: u64, low: LowBits) -> u32
     (u32::from(low.value) + 4096 - passed) % 4096
 }
 
-impl<T: Measured> Device<T> for LowBitMatcher<T> {
+impl<T: Measured> AlarmDevice<T> for LowBitMatcher<T> {
     ghost clock = { λ a. a.clock };
 
     ghost due = { λ a. match_due T.Measured.place T.Measured.at a.clock a.low };

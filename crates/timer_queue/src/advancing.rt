@@ -6,7 +6,7 @@ ghost use Rattle.timer_queue.specs.Services.{CountedAll, Ready, ServedAll};
 
 use crate::aiming::{aim, rings};
 use crate::serving::{fire, least};
-use alarms::{Alarm, Device};
+use alarms::{Alarm, AlarmDevice};
 use queue_rules::firing::Firing;
 use slot_heaps::roots::first_by_hard;
 use slot_heaps::slots::Slot;
@@ -34,8 +34,8 @@ pub(crate) fn serve<T: Time, A: Alarm<T>>(
     ensures few_wakes { result.wakes + result.left ≤ pending }
     ensures held { length (listed result.left slots.new) + pending ≡ length (listed pending slots.old) + result.left }
     ensures ordered { BothHeaped T.Time.before pending slots.old → BothHeaped T.Time.before result.left slots.new }
-    ensures served { Ready T.Time.before pending slots.old (A.Device.clock alarm.old) (A.Device.due alarm.old) t → ServedAll T.Time.before t (listed pending slots.old) (listed result.left slots.new) result.wakes log.old log.new (A.Device.clock alarm.new) (A.Device.due alarm.new) }
-    ensures counted { Ready T.Time.before pending slots.old (A.Device.clock alarm.old) (A.Device.due alarm.old) t → CountedAll T.Time.before t (listed pending slots.old) (listed result.left slots.new) }
+    ensures served { Ready T.Time.before pending slots.old (A.AlarmDevice.clock alarm.old) (A.AlarmDevice.due alarm.old) t → ServedAll T.Time.before t (listed pending slots.old) (listed result.left slots.new) result.wakes log.old log.new (A.AlarmDevice.clock alarm.new) (A.AlarmDevice.due alarm.new) }
+    ensures counted { Ready T.Time.before pending slots.old (A.AlarmDevice.clock alarm.old) (A.AlarmDevice.due alarm.old) t → CountedAll T.Time.before t (listed pending slots.old) (listed result.left slots.new) }
 {
     let mut left = pending;
     let mut wakes = 0;

@@ -53,9 +53,9 @@ impl<'a, T: Time> TimerQueue<'a, T> {
     // Nothing is pending, and the alarm is not due: a list of calls begins.
     pub fn start<A: Alarm<T>>(&mut self, alarm: &mut A)
         ensures timers { queue_timers self.new ≡ [] }
-        ensures alarm { Clears A.Device.clock A.Device.due alarm.old alarm.new }
+        ensures alarm { Clears A.AlarmDevice.clock A.AlarmDevice.due alarm.old alarm.new }
         ensures spared { Spared self.old.inner self.new.inner }
-        ensures history { Lived T.Time.before (length self.old.inner.slots.now) (A.Device.clock alarm.old) [] (state_with A.Device.clock A.Device.due self.new alarm.new) }
+        ensures history { Lived T.Time.before (length self.old.inner.slots.now) (A.AlarmDevice.clock alarm.old) [] (state_with A.AlarmDevice.clock A.AlarmDevice.due self.new alarm.new) }
     {
         self.inner.clear();
         alarm.clear();
@@ -69,8 +69,8 @@ impl<'a, T: Time> TimerQueue<'a, T> {
         soft: T,
         hard: T,
     ) -> Result<(), QueueFault>
-        ensures done { Done T.Time.before A.Device.clock A.Device.due self.old self.new alarm.old alarm.new (λ s. arming T.Time.before s (timed number soft hard)) result [] (armed (is_ok result) (timed number soft hard)) }
-        ensures refused { Leaves result self.old self.new (A.Device.clock alarm.old) (A.Device.clock alarm.new) (A.Device.due alarm.old) (A.Device.due alarm.new) }
+        ensures done { Done T.Time.before A.AlarmDevice.clock A.AlarmDevice.due self.old self.new alarm.old alarm.new (λ s. arming T.Time.before s (timed number soft hard)) result [] (armed (is_ok result) (timed number soft hard)) }
+        ensures refused { Leaves result self.old self.new (A.AlarmDevice.clock alarm.old) (A.AlarmDevice.clock alarm.new) (A.AlarmDevice.due alarm.old) (A.AlarmDevice.due alarm.new) }
         ensures spared { Spared self.old.inner self.new.inner }
     {
         let timer = Timer { number, soft, hard };
@@ -82,8 +82,8 @@ impl<'a, T: Time> TimerQueue<'a, T> {
 
     // Cancels the pending timer of this number.
     pub fn cancel<A: Alarm<T>>(&mut self, alarm: &mut A, number: u32) -> Result<(), QueueFault>
-        ensures done { Done T.Time.before A.Device.clock A.Device.due self.old self.new alarm.old alarm.new (λ s. cancelling T.Time.before s number) result [] (cancelled (is_ok result) number) }
-        ensures refused { Leaves result self.old self.new (A.Device.clock alarm.old) (A.Device.clock alarm.new) (A.Device.due alarm.old) (A.Device.due alarm.new) }
+        ensures done { Done T.Time.before A.AlarmDevice.clock A.AlarmDevice.due self.old self.new alarm.old alarm.new (λ s. cancelling T.Time.before s number) result [] (cancelled (is_ok result) number) }
+        ensures refused { Leaves result self.old self.new (A.AlarmDevice.clock alarm.old) (A.AlarmDevice.clock alarm.new) (A.AlarmDevice.due alarm.old) (A.AlarmDevice.due alarm.new) }
         ensures spared { Spared self.old.inner self.new.inner }
     {
         let slot = self.check_cancel(alarm, number)?;
@@ -101,10 +101,10 @@ impl<'a, T: Time> TimerQueue<'a, T> {
         t: T,
         log: &mut [Firing<T>],
     ) -> Result<(u16, u16), QueueFault>
-        ensures done { Done T.Time.before A.Device.clock A.Device.due self.old self.new alarm.old alarm.new (λ s. advancing T.Time.before s t (length log.old)) result (written result log.new) (advanced (is_ok result) t (counts result) (written result log.new)) }
-        ensures greedy { Greedily T.Time.before (state_with A.Device.clock A.Device.due self.old alarm.old) t result (written result log.new) }
+        ensures done { Done T.Time.before A.AlarmDevice.clock A.AlarmDevice.due self.old self.new alarm.old alarm.new (λ s. advancing T.Time.before s t (length log.old)) result (written result log.new) (advanced (is_ok result) t (counts result) (written result log.new)) }
+        ensures greedy { Greedily T.Time.before (state_with A.AlarmDevice.clock A.AlarmDevice.due self.old alarm.old) t result (written result log.new) }
         ensures later { unwritten result log.new ≡ unwritten result log.old }
-        ensures refused { Leaves result self.old self.new (A.Device.clock alarm.old) (A.Device.clock alarm.new) (A.Device.due alarm.old) (A.Device.due alarm.new) }
+        ensures refused { Leaves result self.old self.new (A.AlarmDevice.clock alarm.old) (A.AlarmDevice.clock alarm.new) (A.AlarmDevice.due alarm.old) (A.AlarmDevice.due alarm.new) }
         ensures few { IfOk result (λ n. (n.0 ≤ length (queue_timers self.old)) × (n.1 ≤ length (queue_timers self.old)) × (length (queue_timers self.old) ≤ length log.old)) }
         ensures unlogged { OnErr result (log.new ≡ log.old) }
         ensures spared { Spared self.old.inner self.new.inner }

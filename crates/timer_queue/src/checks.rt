@@ -7,7 +7,7 @@ ghost use Rattle.timer_queue.specs.Views.{refusal_of, moved, arm_refusal, cancel
 
 use crate::aiming::is_due;
 use crate::queue::TimerQueue;
-use alarms::{Alarm, Device};
+use alarms::{Alarm, AlarmDevice};
 use queue_rules::fault::QueueFault;
 use slot_heaps::timer::Timer;
 use times::Time;
@@ -15,8 +15,8 @@ use times::Time;
 impl<'a, T: Time> TimerQueue<'a, T> {
     // Whether the alarm is due at the least pending hard time, or not due where nothing is pending.
     fn check_alarm<A: Alarm<T>>(&self, alarm: &A) -> Result<(), QueueFault>
-        ensures answer { refusal_of result ≡ moved T.Time.before (queue_timers self.now) (A.Device.due alarm.now) None }
-        ensures ahead { NotPast T.Time.before (A.Device.clock alarm.now) (A.Device.due alarm.now) }
+        ensures answer { refusal_of result ≡ moved T.Time.before (queue_timers self.now) (A.AlarmDevice.due alarm.now) None }
+        ensures ahead { NotPast T.Time.before (A.AlarmDevice.clock alarm.now) (A.AlarmDevice.due alarm.now) }
     {
         if is_due(alarm, self.least()) {
             Ok(())
@@ -31,8 +31,8 @@ impl<'a, T: Time> TimerQueue<'a, T> {
         alarm: &A,
         timer: Timer<T>,
     ) -> Result<(), QueueFault>
-        ensures answer { refusal_of result ≡ arm_refusal T.Time.before (length self.now.inner.slots.now) (queue_timers self.now) (A.Device.clock alarm.now) (A.Device.due alarm.now) timer }
-        ensures ahead { NotPast T.Time.before (A.Device.clock alarm.now) (A.Device.due alarm.now) }
+        ensures answer { refusal_of result ≡ arm_refusal T.Time.before (length self.now.inner.slots.now) (queue_timers self.now) (A.AlarmDevice.clock alarm.now) (A.AlarmDevice.due alarm.now) timer }
+        ensures ahead { NotPast T.Time.before (A.AlarmDevice.clock alarm.now) (A.AlarmDevice.due alarm.now) }
         ensures room { OnOk result (self.now.inner.pending < length self.now.inner.slots.now) }
     {
         self.check_alarm(alarm)?;
@@ -57,8 +57,8 @@ impl<'a, T: Time> TimerQueue<'a, T> {
         alarm: &A,
         number: u32,
     ) -> Result<u16, QueueFault>
-        ensures answer { refusal_of result ≡ cancel_refusal T.Time.before (length self.now.inner.slots.now) (queue_timers self.now) (A.Device.clock alarm.now) (A.Device.due alarm.now) number }
-        ensures ahead { NotPast T.Time.before (A.Device.clock alarm.now) (A.Device.due alarm.now) }
+        ensures answer { refusal_of result ≡ cancel_refusal T.Time.before (length self.now.inner.slots.now) (queue_timers self.now) (A.AlarmDevice.clock alarm.now) (A.AlarmDevice.due alarm.now) number }
+        ensures ahead { NotPast T.Time.before (A.AlarmDevice.clock alarm.now) (A.AlarmDevice.due alarm.now) }
         ensures slot { IfOk result (λ i. Found number self.now.inner.pending self.now.inner.slots.now (Some i)) }
     {
         self.check_alarm(alarm)?;
@@ -72,8 +72,8 @@ impl<'a, T: Time> TimerQueue<'a, T> {
         t: T,
         room: usize,
     ) -> Result<(), QueueFault>
-        ensures answer { refusal_of result ≡ advance_refusal T.Time.before (length self.now.inner.slots.now) (queue_timers self.now) (A.Device.clock alarm.now) (A.Device.due alarm.now) t room }
-        ensures ahead { NotPast T.Time.before (A.Device.clock alarm.now) (A.Device.due alarm.now) }
+        ensures answer { refusal_of result ≡ advance_refusal T.Time.before (length self.now.inner.slots.now) (queue_timers self.now) (A.AlarmDevice.clock alarm.now) (A.AlarmDevice.due alarm.now) t room }
+        ensures ahead { NotPast T.Time.before (A.AlarmDevice.clock alarm.now) (A.AlarmDevice.due alarm.now) }
         ensures room { OnOk result (self.now.inner.pending ≤ room) }
     {
         self.check_alarm(alarm)?;

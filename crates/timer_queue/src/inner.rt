@@ -70,8 +70,8 @@ impl<'a, T: Time> Inner<'a, T> {
         ensures few_wakes { result + self.new.pending ≤ self.old.pending }
         ensures held { length (held_timers self.new) + self.old.pending ≡ length (held_timers self.old) + self.new.pending }
         ensures ordered { BothHeaped T.Time.before self.old.pending self.old.slots.now → BothHeaped T.Time.before self.new.pending self.new.slots.now }
-        ensures served { Ready T.Time.before self.old.pending self.old.slots.now (A.Device.clock alarm.old) (A.Device.due alarm.old) t → ServedAll T.Time.before t (held_timers self.old) (held_timers self.new) result log.old log.new (A.Device.clock alarm.new) (A.Device.due alarm.new) }
-        ensures counted { Ready T.Time.before self.old.pending self.old.slots.now (A.Device.clock alarm.old) (A.Device.due alarm.old) t → CountedAll T.Time.before t (held_timers self.old) (held_timers self.new) }
+        ensures served { Ready T.Time.before self.old.pending self.old.slots.now (A.AlarmDevice.clock alarm.old) (A.AlarmDevice.due alarm.old) t → ServedAll T.Time.before t (held_timers self.old) (held_timers self.new) result log.old log.new (A.AlarmDevice.clock alarm.new) (A.AlarmDevice.due alarm.new) }
+        ensures counted { Ready T.Time.before self.old.pending self.old.slots.now (A.AlarmDevice.clock alarm.old) (A.AlarmDevice.due alarm.old) t → CountedAll T.Time.before t (held_timers self.old) (held_timers self.new) }
     {
         let service = serve(self.slots, self.pending, alarm, t, log);
         self.pending = service.left;

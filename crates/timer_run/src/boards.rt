@@ -1,7 +1,7 @@
 // An open run on a board: a queue over lent slots, and the alarm device that was asked for.
 use crate::desk::Desk;
 use alarm_chains::ChainedAlarm;
-use alarms::{Alarm, Comparator, ShortAlarm};
+use alarms::{Alarm, AlarmDevice, Comparator, ShortAlarm};
 use queue_rules::firing::Firing;
 use runs::closed::ClosedRun;
 use runs::kinds::NamedTime;

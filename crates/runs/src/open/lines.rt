@@ -14,7 +14,7 @@ use crate::faults::RunFault;
 use crate::finishing::finish;
 use crate::performing::{closes, perform};
 use crate::replies::{Replied, ignore};
-use alarms::{Alarm, Device};
+use alarms::{Alarm, AlarmDevice};
 use queue_rules::firing::Firing;
 use timer_queue::queue::TimerQueue;
 use times::Plain;
@@ -28,10 +28,10 @@ impl<T: Plain> OpenRun<T> {
         line: &[u8],
         log: &mut [Firing<T>],
     ) -> Result<(u16, u16), RunFault>
-        ensures told { told T.Plain.plain result log.new ≡ forget (line_effect (kind_of_time T.Plain) (length log.old) (opened_with A.Device.clock A.Device.due self.old.closing queue.old alarm.old) line.now) }
-        ensures left { opened_with A.Device.clock A.Device.due self.new.closing queue.new alarm.new ≡ effect_left (line_effect (kind_of_time T.Plain) (length log.old) (opened_with A.Device.clock A.Device.due self.old.closing queue.old alarm.old) line.now) (opened_with A.Device.clock A.Device.due self.old.closing queue.old alarm.old) }
+        ensures told { told T.Plain.plain result log.new ≡ forget (line_effect (kind_of_time T.Plain) (length log.old) (opened_with A.AlarmDevice.clock A.AlarmDevice.due self.old.closing queue.old alarm.old) line.now) }
+        ensures left { opened_with A.AlarmDevice.clock A.AlarmDevice.due self.new.closing queue.new alarm.new ≡ effect_left (line_effect (kind_of_time T.Plain) (length log.old) (opened_with A.AlarmDevice.clock A.AlarmDevice.due self.old.closing queue.old alarm.old) line.now) (opened_with A.AlarmDevice.clock A.AlarmDevice.due self.old.closing queue.old alarm.old) }
         ensures few { IfOk result (λ n. (n.0 ≤ length (queue_timers queue.old)) × (n.1 ≤ length (queue_timers queue.old)) × (n.1 ≤ length log.old)) }
-        ensures refused { Untouched result queue.old queue.new (A.Device.clock alarm.old) (A.Device.clock alarm.new) (A.Device.due alarm.old) (A.Device.due alarm.new) log.old log.new }
+        ensures refused { Untouched result queue.old queue.new (A.AlarmDevice.clock alarm.old) (A.AlarmDevice.clock alarm.new) (A.AlarmDevice.due alarm.old) (A.AlarmDevice.due alarm.new) log.old log.new }
         ensures spared { Spared queue.old.inner queue.new.inner }
         ensures counts { self.new.counts ≡ self.old.counts }
     {
@@ -50,10 +50,10 @@ impl<T: Plain> OpenRun<T> {
         log: &mut [Firing<T>],
         buffer: &mut [u8],
     ) -> Replied
-        ensures reply { RepliedBy (open_line (kind_of_time T.Plain) (length buffer.old) (length log.old) (tally_of self.old.counts) (opened_with A.Device.clock A.Device.due self.old.closing queue.old alarm.old) line.now) (tally_of self.new.counts) (opened_with A.Device.clock A.Device.due self.new.closing queue.new alarm.new) buffer.old buffer.new result }
-        ensures history { CarriesOn (kind_of_time T.Plain) (state_with A.Device.clock A.Device.due queue.old alarm.old) (line_events (kind_of_time T.Plain) (length buffer.old) (length log.old) (tally_of self.old.counts) (opened_with A.Device.clock A.Device.due self.old.closing queue.old alarm.old) line.now) (state_with A.Device.clock A.Device.due queue.new alarm.new) }
+        ensures reply { RepliedBy (open_line (kind_of_time T.Plain) (length buffer.old) (length log.old) (tally_of self.old.counts) (opened_with A.AlarmDevice.clock A.AlarmDevice.due self.old.closing queue.old alarm.old) line.now) (tally_of self.new.counts) (opened_with A.AlarmDevice.clock A.AlarmDevice.due self.new.closing queue.new alarm.new) buffer.old buffer.new result }
+        ensures history { CarriesOn (kind_of_time T.Plain) (state_with A.AlarmDevice.clock A.AlarmDevice.due queue.old alarm.old) (line_events (kind_of_time T.Plain) (length buffer.old) (length log.old) (tally_of self.old.counts) (opened_with A.AlarmDevice.clock A.AlarmDevice.due self.old.closing queue.old alarm.old) line.now) (state_with A.AlarmDevice.clock A.AlarmDevice.due queue.new alarm.new) }
         ensures within { result.written ≤ length buffer.old }
-        ensures refused { Untouched result.answer queue.old queue.new (A.Device.clock alarm.old) (A.Device.clock alarm.new) (A.Device.due alarm.old) (A.Device.due alarm.new) log.old log.new }
+        ensures refused { Untouched result.answer queue.old queue.new (A.AlarmDevice.clock alarm.old) (A.AlarmDevice.clock alarm.new) (A.AlarmDevice.due alarm.old) (A.AlarmDevice.due alarm.new) log.old log.new }
         ensures spared { Spared queue.old.inner queue.new.inner }
     {
         if let Some(fault) = self.counts.unanswered(buffer.len(), queue.pending()) {

@@ -10,7 +10,7 @@ use crate::faults::RunFault;
 use crate::kinds::NamedTime;
 use crate::open::OpenRun;
 use crate::opening::{Opening, TimeKind};
-use alarms::{Alarm, Device};
+use alarms::{Alarm, AlarmDevice};
 use timer_queue::queue::TimerQueue;
 
 // Whether an accepted open frame asked for this kind of time, and for a start at this clock.
@@ -48,8 +48,8 @@ impl WaitingRun {
         queue: &mut TimerQueue<'_, T>,
         alarm: &mut A,
     ) -> Result<OpenRun<T>, (WaitingRun, RunFault)>
-        ensures opens { Opens (startable self.accepted T.NamedTime.kind (T.Plain.plain (A.Device.clock alarm.old))) self result }
-        ensures started { MatchResult result (λ _. Started T.Time.before A.Device.clock A.Device.due queue.old queue.new alarm.old alarm.new) (λ _. (queue.new ≡ queue.old) × (A.Device.clock alarm.new ≡ A.Device.clock alarm.old) × (A.Device.due alarm.new ≡ A.Device.due alarm.old)) }
+        ensures opens { Opens (startable self.accepted T.NamedTime.kind (T.Plain.plain (A.AlarmDevice.clock alarm.old))) self result }
+        ensures started { MatchResult result (λ _. Started T.Time.before A.AlarmDevice.clock A.AlarmDevice.due queue.old queue.new alarm.old alarm.new) (λ _. (queue.new ≡ queue.old) × (A.AlarmDevice.clock alarm.new ≡ A.AlarmDevice.clock alarm.old) × (A.AlarmDevice.due alarm.new ≡ A.AlarmDevice.due alarm.old)) }
         ensures spared { Spared queue.old.inner queue.new.inner }
     {
         match self.open_at(alarm.clock()) {

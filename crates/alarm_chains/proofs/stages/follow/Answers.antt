@@ -23,27 +23,27 @@ returns-then-not-before g c =
     let m = kind g c.aim.ensures.agrees in
     let begun = (aim_accepted m g.S.ShortAlarm.reach _ c.args.goal c.requires.ahead _ c.aim.ensures.value).clocked in
     let rang = c.in_ok-pass.was ∙ ap Ok c.in-Rang.is in
-    let reached : g.T.Time.before (g.S.Device.clock c.pass.new.self) c.args.goal ≡ false = cc in
+    let reached : g.T.Time.before (g.S.AlarmDevice.clock c.pass.new.self) c.args.goal ≡ false = cc in
     let ended = rang_at_goal m g.met.S.ShortAlarm.reaching c.stages.invariant c.pass.ensures _ (ap g.T.Measured.place begun) c.requires.forward rang reached in
     record { value = ended.value; count = ended.count }
 
 pub stages-preserved : goal.stages-preserved
 stages-preserved g c =
     let rang = c.in_ok-pass.was ∙ ap Ok c.in-Rang.is in
-    let short : g.T.Time.before (g.S.Device.clock c.pass.new.self) c.args.goal ≡ true = cc in
+    let short : g.T.Time.before (g.S.AlarmDevice.clock c.pass.new.self) c.args.goal ≡ true = cc in
     chase_on (kind g c.aim.ensures.agrees) g.met.S.ShortAlarm.reaching c.stages.invariant c.pass.ensures rang short c.aim-in-Rang.ensures.value
 
 pub stages-smaller : goal.stages-smaller
 stages-smaller g c =
     let rang = c.in_ok-pass.was ∙ ap Ok c.in-Rang.is in
-    let short : g.T.Time.before (g.S.Device.clock c.pass.new.self) c.args.goal ≡ true = cc in
+    let short : g.T.Time.before (g.S.AlarmDevice.clock c.pass.new.self) c.args.goal ≡ true = cc in
     chase_falls (kind g c.aim.ensures.agrees) g.met.S.ShortAlarm.reaching c.stages.invariant c.pass.ensures rang short c.aim-in-Rang.ensures.value
 
 -- an aim short of the goal is not refused
 pub returns-in_err-aim-2 : goal.returns-in_err-aim-2
 returns-in_err-aim-2 g c =
     let rang = c.in_ok-pass.was ∙ ap Ok c.in-Rang.is in
-    let short : g.T.Time.before (g.S.Device.clock c.pass.new.self) c.args.goal ≡ true = cc in
+    let short : g.T.Time.before (g.S.AlarmDevice.clock c.pass.new.self) c.args.goal ≡ true = cc in
     let set = set_anew (kind g c.aim.ensures.agrees) g.met.S.ShortAlarm.reaching c.stages.invariant c.pass.ensures rang short c.aim-in-Rang.ensures.value in
     absurd (not_both set c.in_err-aim-2.was)
 

@@ -31,7 +31,7 @@ loop-t-preserved g c =
           let fired = f.fired heap s.distinct in
           let ahead = wake_ahead g.T.Time.before g.met.T.Time.ordered c.args.t (listed c.args.pending c.args.slots.now) c.args.log.now c.loop-t.wakes c.loop-t.log (listed c.loop-t.left c.loop-t.slots) _ _ _ _ c.in-Some.forcing s rung top _ _ _ fired in
           let least = c.least.ensures (f.ordered heap) in
-          let due = c.aim.ensures.due (subst (NotPast g.T.Time.before (g.A.Device.clock c.rings.new.alarm)) (sym least) ahead) ∙ least in
+          let due = c.aim.ensures.due (subst (NotPast g.T.Time.before (g.A.AlarmDevice.clock c.rings.new.alarm)) (sym least) ahead) ∙ least in
           wake_serves g.T.Time.before g.met.T.Time.ordered c.args.t (listed c.args.pending c.args.slots.now) c.args.log.now c.loop-t.wakes c.loop-t.log (listed c.loop-t.left c.loop-t.slots) _ _ _ _ c.in-Some.forcing s rung top _ _ _ fired _ _
           (omega (arith, inv.2, r.held, s.count)) (omega (arith, r.held)) c.aim.ensures.clock due),
     )

@@ -11,9 +11,9 @@ invariant-loop-t g l =
     × (l.wakes + l.left ≤ l.pending)
     × (length (listed l.left l.slots) + l.pending ≡ length (listed l.pending l.initial.slots) + l.left)
     × (BothHeaped g.T.Time.before l.pending l.initial.slots → BothHeaped g.T.Time.before l.left l.slots)
-    × (Ready g.T.Time.before l.pending l.initial.slots (g.A.Device.clock l.initial.alarm) (g.A.Device.due l.initial.alarm) l.t →
+    × (Ready g.T.Time.before l.pending l.initial.slots (g.A.AlarmDevice.clock l.initial.alarm) (g.A.AlarmDevice.due l.initial.alarm) l.t →
     Serving g.T.Time.before g.met.T.Time.ordered l.t (listed l.pending l.initial.slots) l.initial.log
-    l.wakes l.log (listed l.left l.slots) (g.A.Device.clock l.alarm) (g.A.Device.due l.alarm))
+    l.wakes l.log (listed l.left l.slots) (g.A.AlarmDevice.clock l.alarm) (g.A.AlarmDevice.due l.alarm))
 
 abbrev pub decreases-loop-t : goal.decreases-loop-t
 decreases-loop-t g l = l.left

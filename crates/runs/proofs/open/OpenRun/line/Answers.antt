@@ -26,7 +26,7 @@ returns-in-Some g c =
     let k : Kind g.row.T.Denot = kind_by g.T.Time.before g.T.Plain.reads g.T.Plain.plain g.T.Measured.place g.T.Measured.at g.T.Measured.last in
     let q = c.args.queue.now in
     let a : g.row.A.Denot = c.args.alarm.now in
-    let s : Opened g.row.T.Denot = opened_with g.A.Device.clock g.A.Device.due c.args.self.now.closing q a in
+    let s : Opened g.row.T.Denot = opened_with g.A.AlarmDevice.clock g.A.AlarmDevice.due c.args.self.now.closing q a in
     let t : Tally = tally_of c.args.self.now.counts in
     let room : ℕ = length c.args.buffer.now in
     let log : ℕ = length c.args.log.now in
@@ -48,9 +48,9 @@ returns g c =
     let q = c.args.queue.now in
     let a : g.row.A.Denot = c.args.alarm.now in
     let did = c.carry_out-outcome.ensures in
-    let s : Opened g.row.T.Denot = opened_with g.A.Device.clock g.A.Device.due c.args.self.now.closing q a in
+    let s : Opened g.row.T.Denot = opened_with g.A.AlarmDevice.clock g.A.AlarmDevice.due c.args.self.now.closing q a in
     let s' : Opened g.row.T.Denot =
-    opened_with g.A.Device.clock g.A.Device.due c.carry_out-outcome.new.self.closing c.carry_out-outcome.new.queue c.carry_out-outcome.new.alarm in
+    opened_with g.A.AlarmDevice.clock g.A.AlarmDevice.due c.carry_out-outcome.new.self.closing c.carry_out-outcome.new.queue c.carry_out-outcome.new.alarm in
     let t : Tally = tally_of c.args.self.now.counts in
     let t' : Tally = tally_of c.finish.new.counts in
     let room : ℕ = length c.args.buffer.now in

@@ -26,19 +26,19 @@ returns-in_err-check_advance-clause-done g c =
     let q = c.args.self.now in
     let t : g.row.T.Denot = c.args.t in
     let old : List (Firing g.row.T.Denot) = c.args.log.now in
-    let s : State g.row.T.Denot = state_with g.A.Device.clock g.A.Device.due q c.args.alarm.now in
+    let s : State g.row.T.Denot = state_with g.A.AlarmDevice.clock g.A.AlarmDevice.due q c.args.alarm.now in
     let f : QueueFault = c.in_err-check_advance.field-0.0 in
     let p = err_from_is_err_and c.from_residual.result c.from_residual.ensures.1 in
     let e : c.from_residual.result ≡ Err f = p.1 ∙ ap Err p.2 in
-    advance_away before g.A.Device.clock g.A.Device.due q c.args.alarm.now g.met.T.Time.ordered t (length old) old f c.from_residual.result e
+    advance_away before g.A.AlarmDevice.clock g.A.AlarmDevice.due q c.args.alarm.now g.met.T.Time.ordered t (length old) old f c.from_residual.result e
     (advance_turned before g.met.T.Time.ordered (length q.inner.slots.now) (held_timers q.inner) s.clock s.due t (length old) f c.in_err-check_advance.ensures.answer)
 
 pub invariant_of-self : goal.invariant_of-self
 invariant_of-self g c =
     let before = g.T.Time.before in
     let o = g.met.T.Time.ordered in
-    let clock = g.A.Device.clock in
-    let due = g.A.Device.due in
+    let clock = g.A.AlarmDevice.clock in
+    let due = g.A.AlarmDevice.due in
     let q = c.args.self.now in
     let a : g.row.A.Denot = c.args.alarm.now in
     let a' : g.row.A.Denot = c.run-wakes.new.alarm in
@@ -70,8 +70,8 @@ pub returns-clause-done : goal.returns-clause-done
 returns-clause-done g c =
     let before = g.T.Time.before in
     let o = g.met.T.Time.ordered in
-    let clock = g.A.Device.clock in
-    let due = g.A.Device.due in
+    let clock = g.A.AlarmDevice.clock in
+    let due = g.A.AlarmDevice.due in
     let q = c.args.self.now in
     let a : g.row.A.Denot = c.args.alarm.now in
     let a' : g.row.A.Denot = c.run-wakes.new.alarm in
@@ -109,8 +109,8 @@ pub returns-clause-greedy : goal.returns-clause-greedy
 returns-clause-greedy g c =
     let before = g.T.Time.before in
     let o = g.met.T.Time.ordered in
-    let clock = g.A.Device.clock in
-    let due = g.A.Device.due in
+    let clock = g.A.AlarmDevice.clock in
+    let due = g.A.AlarmDevice.due in
     let q = c.args.self.now in
     let a : g.row.A.Denot = c.args.alarm.now in
     let a' : g.row.A.Denot = c.run-wakes.new.alarm in

@@ -25,11 +25,11 @@ returns-in_err-check_arm-clause-done g c =
     let before = g.T.Time.before in
     let q = c.args.self.now in
     let x : Timer g.row.T.Denot = timed c.args.number c.args.soft c.args.hard in
-    let s : State g.row.T.Denot = state_with g.A.Device.clock g.A.Device.due q c.args.alarm.now in
+    let s : State g.row.T.Denot = state_with g.A.AlarmDevice.clock g.A.AlarmDevice.due q c.args.alarm.now in
     let f : QueueFault = c.in_err-check_arm.field-0.0 in
     let p = err_from_is_err_and c.from_residual.result c.from_residual.ensures.1 in
     let e : c.from_residual.result ≡ Err f = p.1 ∙ ap Err p.2 in
-    turned_away before g.A.Device.clock g.A.Device.due q c.args.alarm.now (λ t. arming before t x) (λ r. armed (is_ok r) x) f c.from_residual.result
+    turned_away before g.A.AlarmDevice.clock g.A.AlarmDevice.due q c.args.alarm.now (λ t. arming before t x) (λ r. armed (is_ok r) x) f c.from_residual.result
     (arm_carries before g.met.T.Time.ordered s s x)
     (arm_turned before g.met.T.Time.ordered (length q.inner.slots.now) (held_timers q.inner) s.clock s.due x f c.in_err-check_arm.ensures.answer) e
 
@@ -43,21 +43,21 @@ invariant_of-self g c =
     let j : Inner g.row.T.Denot = c.enter.new.self in
     let more = sym c.enter.ensures.pending in
     let x : Timer g.row.T.Denot = timed c.args.number c.args.soft c.args.hard in
-    let free : arm_refusal before (length i.slots.now) (held_timers i) (g.A.Device.clock a) (g.A.Device.due a) x ≡ None = sym c.in_ok-check_arm.ensures.answer in
+    let free : arm_refusal before (length i.slots.now) (held_timers i) (g.A.AlarmDevice.clock a) (g.A.AlarmDevice.due a) x ≡ None = sym c.in_ok-check_arm.ensures.answer in
     let ahead = c.check_arm.ensures.ahead in
     let list : Inserted x (held_timers i) (held_timers j) = subst (λ (n : ℕ). Inserted x (held_timers i) (listed n j.slots.now)) more c.enter.ensures.listed in
     typed before j (counted_still i j c.enter.ensures.spared q.counted) (subst (λ (n : ℕ). Standing n j.slots.now) more c.enter.ensures.standing)
     (inserted_length _ (held_timers i) (held_timers j) list ∙ omega (arith, q.held, c.enter.ensures.pending))
     (subst (λ (n : ℕ). BothHeaped before n j.slots.now) more (c.enter.ensures.ordered (q.hard_order, q.soft_order)))
-    (entered_distinct before o (length i.slots.now) (held_timers i) (held_timers j) (g.A.Device.clock a) (g.A.Device.due a) x free ahead list q.distinct q.proper)
-    (entered_proper before o (length i.slots.now) (held_timers i) (held_timers j) (g.A.Device.clock a) (g.A.Device.due a) x free ahead list q.distinct q.proper)
+    (entered_distinct before o (length i.slots.now) (held_timers i) (held_timers j) (g.A.AlarmDevice.clock a) (g.A.AlarmDevice.due a) x free ahead list q.distinct q.proper)
+    (entered_proper before o (length i.slots.now) (held_timers i) (held_timers j) (g.A.AlarmDevice.clock a) (g.A.AlarmDevice.due a) x free ahead list q.distinct q.proper)
 
 pub returns-clause-done : goal.returns-clause-done
 returns-clause-done g c =
     let before = g.T.Time.before in
     let o = g.met.T.Time.ordered in
-    let clock = g.A.Device.clock in
-    let due = g.A.Device.due in
+    let clock = g.A.AlarmDevice.clock in
+    let due = g.A.AlarmDevice.due in
     let q = c.args.self.now in
     let a : g.row.A.Denot = c.args.alarm.now in
     let j : Inner g.row.T.Denot = c.enter.new.self in

@@ -25,11 +25,11 @@ returns-in_err-slot-clause-done g c =
     let before = g.T.Time.before in
     let q = c.args.self.now in
     let n : ℕ = c.args.number in
-    let s : State g.row.T.Denot = state_with g.A.Device.clock g.A.Device.due q c.args.alarm.now in
+    let s : State g.row.T.Denot = state_with g.A.AlarmDevice.clock g.A.AlarmDevice.due q c.args.alarm.now in
     let f : QueueFault = c.in_err-slot.field-0.0 in
     let p = err_from_is_err_and c.from_residual.result c.from_residual.ensures.1 in
     let e : c.from_residual.result ≡ Err f = p.1 ∙ ap Err p.2 in
-    turned_away before g.A.Device.clock g.A.Device.due q c.args.alarm.now (λ t. cancelling before t n) (λ r. cancelled (is_ok r) n) f c.from_residual.result
+    turned_away before g.A.AlarmDevice.clock g.A.AlarmDevice.due q c.args.alarm.now (λ t. cancelling before t n) (λ r. cancelled (is_ok r) n) f c.from_residual.result
     (cancel_carries before g.met.T.Time.ordered s s n)
     (cancel_turned before g.met.T.Time.ordered (length q.inner.slots.now) (held_timers q.inner) s.clock s.due n f c.in_err-slot.ensures.answer) e
 
@@ -47,7 +47,7 @@ invariant_of-self g c =
     let less = sym c.leave.ensures.pending in
     let hit = c.in_ok-slot.ensures.slot in
     let one : l + 1 ≡ i.pending = omega (arith, hit.1.pending) in
-    let found : cancel_refusal before (length i.slots.now) (held_timers i) (g.A.Device.clock a) (g.A.Device.due a) n ≡ None = sym c.in_ok-slot.ensures.answer in
+    let found : cancel_refusal before (length i.slots.now) (held_timers i) (g.A.AlarmDevice.clock a) (g.A.AlarmDevice.due a) n ≡ None = sym c.in_ok-slot.ensures.answer in
     let ahead = c.check_cancel.ensures.ahead in
     let at = hit.1.timer in
     let value = c.leave.ensures.value in
@@ -59,15 +59,15 @@ invariant_of-self g c =
     typed before j (counted_still i j c.leave.ensures.spared q.counted) (subst (λ (n : ℕ). Standing n j.slots.now) less c.leave.ensures.standing)
     (omega (arith, m, one, q.held, c.leave.ensures.pending))
     (subst (λ (n : ℕ). BothHeaped before n j.slots.now) less (c.leave.ensures.ordered heap))
-    (left_distinct before o (length i.slots.now) (held_timers i) (held_timers j) (g.A.Device.clock a) (g.A.Device.due a) n x found ahead list named q.distinct q.proper)
-    (left_proper before o (length i.slots.now) (held_timers i) (held_timers j) (g.A.Device.clock a) (g.A.Device.due a) n x found ahead list named q.distinct q.proper)
+    (left_distinct before o (length i.slots.now) (held_timers i) (held_timers j) (g.A.AlarmDevice.clock a) (g.A.AlarmDevice.due a) n x found ahead list named q.distinct q.proper)
+    (left_proper before o (length i.slots.now) (held_timers i) (held_timers j) (g.A.AlarmDevice.clock a) (g.A.AlarmDevice.due a) n x found ahead list named q.distinct q.proper)
 
 pub returns-clause-done : goal.returns-clause-done
 returns-clause-done g c =
     let before = g.T.Time.before in
     let o = g.met.T.Time.ordered in
-    let clock = g.A.Device.clock in
-    let due = g.A.Device.due in
+    let clock = g.A.AlarmDevice.clock in
+    let due = g.A.AlarmDevice.due in
     let q = c.args.self.now in
     let a : g.row.A.Denot = c.args.alarm.now in
     let a' : g.row.A.Denot = c.aim.new.alarm in

@@ -1,7 +1,7 @@
 use Rattle.std.proofs.Common.{rules}
 use Rattle.times.proofs.Measures.{measure}
 use Rattle.short_alarms.proofs.Matches.{match_stays}
-use Rattle.short_alarms.proofs.low_bit_matchers.LowBitMatcherDevice.pass.Goals as goal
+use Rattle.short_alarms.proofs.low_bit_matchers.LowBitMatcherAlarmDevice.pass.Goals as goal
 
 pub returns-in-None : goal.returns-in-None
 returns-in-None g c =

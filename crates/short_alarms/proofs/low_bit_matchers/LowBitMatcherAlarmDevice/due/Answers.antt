@@ -1,5 +1,5 @@
 use Rattle.std.proofs.Common.{rules}
-use Rattle.short_alarms.proofs.low_bit_matchers.LowBitMatcherDevice.due.Goals as goal
+use Rattle.short_alarms.proofs.low_bit_matchers.LowBitMatcherAlarmDevice.due.Goals as goal
 
 pub returns : goal.returns
 returns g c =

@@ -5,7 +5,7 @@ ghost use Rattle.alarms.specs.Meaning.{Clears, NotPast, Passes};
 use crate::faults::{AlarmFault, Passage};
 use times::Time;
 
-pub trait Device<T: Time> {
+pub trait AlarmDevice<T: Time> {
     ghost clock: { Self → T };
 
     ghost due: { Self → Option T };
