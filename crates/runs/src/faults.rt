@@ -1,13 +1,14 @@
 // Why a line is refused, or an opening or a closing: the fault of the layer below, unaltered, or one of the run's own.
 ghost use Rattle.std.specs.Prelude.{◌≡◌};
-ghost use Rattle.runs.specs.declared.faults.RunFault.TheVariants.{Line, Frame, Time, Queue};
+ghost use Rattle.runs.specs.declared.faults.RunFault.TheVariants.{Line, Frame, Time, Queue, UnknownPurpose};
 ghost use Rattle.runs.specs.Numbers.{run_number};
 
+use crate::purposes::NoSuchPurpose;
 use frames::faults::{FrameFault, LineFault};
 use queue_rules::fault::QueueFault;
 use times::TimeFault;
 
-#[derive(Clone, Copy)]
+#[derive(Clone, Copy, PartialEq, Eq, Debug)]
 pub enum RunFault {
     Line(LineFault),
     Frame(FrameFault),
@@ -76,5 +77,13 @@ impl From<QueueFault> for RunFault {
 
     fn from(fault: QueueFault) -> RunFault {
         RunFault::Queue(fault)
+    }
+}
+
+impl From<NoSuchPurpose> for RunFault {
+    ghost from_gives = { λ _ r. r ≡ UnknownPurpose };
+
+    fn from(_: NoSuchPurpose) -> RunFault {
+        RunFault::UnknownPurpose
     }
 }

@@ -9,13 +9,13 @@ use crate::faults::RunFault;
 use frames::request::Request;
 use times::{DayTick, Plain, Tick, TimeFault};
 
-#[derive(Clone, Copy)]
+#[derive(Clone, Copy, PartialEq, Eq, Debug)]
 pub enum TimeKind {
     Ticks,
     DayTicks,
 }
 
-#[derive(Clone, Copy)]
+#[derive(Clone, Copy, PartialEq, Eq, Debug)]
 pub enum Device {
     Comparator,
     ChainedDownCounter,
@@ -23,31 +23,39 @@ pub enum Device {
 }
 
 // The start time is in its plain form, and is a time of its kind.
-#[derive(Clone, Copy)]
+#[derive(Clone, Copy, PartialEq, Eq, Debug)]
 pub struct Opening {
     pub kind: TimeKind,
     pub device: Device,
     pub start: u64,
 }
 
-fn read_kind(byte: u8) -> Result<TimeKind, RunFault>
-    ensures { result ≡ ok_or (kind_of byte) UnknownDevice }
-{
-    match byte {
-        0 => Ok(TimeKind::Ticks),
-        1 => Ok(TimeKind::DayTicks),
-        _ => Err(RunFault::UnknownDevice),
+impl TryFrom<u8> for TimeKind {
+    type Error = RunFault;
+
+    ghost try_from_gives = { λ byte r. r ≡ ok_or (kind_of byte) UnknownDevice };
+
+    fn try_from(byte: u8) -> Result<TimeKind, RunFault> {
+        match byte {
+            0 => Ok(TimeKind::Ticks),
+            1 => Ok(TimeKind::DayTicks),
+            _ => Err(RunFault::UnknownDevice),
+        }
     }
 }
 
-fn read_device(byte: u8) -> Result<Device, RunFault>
-    ensures { result ≡ ok_or (device_of byte) UnknownDevice }
-{
-    match byte {
-        0 => Ok(Device::Comparator),
-        1 => Ok(Device::ChainedDownCounter),
-        2 => Ok(Device::ChainedLowBitMatcher),
-        _ => Err(RunFault::UnknownDevice),
+impl TryFrom<u8> for Device {
+    type Error = RunFault;
+
+    ghost try_from_gives = { λ byte r. r ≡ ok_or (device_of byte) UnknownDevice };
+
+    fn try_from(byte: u8) -> Result<Device, RunFault> {
+        match byte {
+            0 => Ok(Device::Comparator),
+            1 => Ok(Device::ChainedDownCounter),
+            2 => Ok(Device::ChainedLowBitMatcher),
+            _ => Err(RunFault::UnknownDevice),
+        }
     }
 }
 
@@ -56,14 +64,8 @@ fn check_time(kind: TimeKind, plain: u64) -> Result<(), TimeFault>
     ensures { result ≡ (if is_time kind plain then Ok tt else Err NoSuchTime) }
 {
     match kind {
-        TimeKind::Ticks => match Tick::from_plain(plain) {
-            Ok(_) => Ok(()),
-            Err(fault) => Err(fault),
-        },
-        TimeKind::DayTicks => match DayTick::from_plain(plain) {
-            Ok(_) => Ok(()),
-            Err(fault) => Err(fault),
-        },
+        TimeKind::Ticks => Tick::from_plain(plain).map(|_| ()),
+        TimeKind::DayTicks => DayTick::from_plain(plain).map(|_| ()),
     }
 }
 
@@ -79,8 +81,8 @@ pub fn opening_of(request: Request) -> Result<Opening, RunFault>
     else {
         return Err(RunFault::NotOpenedYet);
     };
-    let kind = read_kind(time_kind)?;
-    let device = read_device(device)?;
+    let kind = TimeKind::try_from(time_kind)?;
+    let device = Device::try_from(device)?;
     check_time(kind, start)?;
     Ok(Opening {
         kind,

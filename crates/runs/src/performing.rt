@@ -20,10 +20,7 @@ use times::Plain;
 pub(crate) fn closes<T: Plain>(step: Step<T>) -> bool
     ensures { result ≡ closing_step step }
 {
-    match step {
-        Step::Close => true,
-        _ => false,
-    }
+    matches!(step, Step::Close)
 }
 
 // Answers the wake-ups and the firings of the call; the firings are logged from the start of the log.

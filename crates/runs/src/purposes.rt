@@ -19,7 +19,7 @@ const OFFSETS: [(u32, u32); 12] = [
 ];
 
 // A purpose is a row of the table: no other number is one.
-#[derive(Clone, Copy)]
+#[derive(Clone, Copy, PartialEq, Eq, Debug)]
 pub struct Purpose {
     row: u8,
     ghost within: { row < 12 },
@@ -29,21 +29,28 @@ fn row_at(row: u8) -> (u32, u32)
     requires { row < 12 }
     ensures { result ≡ slice_index_or offsets_of row (0, 0) }
 {
-    OFFSETS[row as usize]
+    OFFSETS[usize::from(row)]
 }
 
-impl Purpose {
-    // The purpose of a number, or the number back.
-    pub fn new(row: u8) -> Result<Purpose, u8>
-        ensures { MatchResult result (λ p. p.row ≡ row) (λ n. (n ≡ row) × (12 ≤ row)) }
-    {
+// A number that is no purpose.
+#[derive(Clone, Copy, PartialEq, Eq, Debug)]
+pub struct NoSuchPurpose(pub u8);
+
+impl TryFrom<u8> for Purpose {
+    type Error = NoSuchPurpose;
+
+    ghost try_from_gives = { λ row r. MatchResult r (λ p. p.row ≡ row) (λ e. (e.0 ≡ row) × (12 ≤ row)) };
+
+    fn try_from(row: u8) -> Result<Purpose, NoSuchPurpose> {
         if row < 12 {
             Ok(Purpose { row })
         } else {
-            Err(row)
+            Err(NoSuchPurpose(row))
         }
     }
+}
 
+impl Purpose {
     // How far ahead of the clock its soft and its hard time lie.
     pub fn offsets(self) -> (u32, u32)
         ensures row { result ≡ slice_index_or offsets_of self.row (0, 0) }

@@ -6,14 +6,14 @@ mod answering;
 pub(crate) use answering::{accept, ignore, refuse};
 
 // Why a line was refused, and which line.
-#[derive(Clone, Copy)]
+#[derive(Clone, Copy, PartialEq, Eq, Debug)]
 pub struct Refusal {
     pub line: u32,
     pub fault: RunFault,
 }
 
 // How many bytes of the buffer were written, and whether the line was carried out.
-#[derive(Clone, Copy)]
+#[derive(Clone, Copy, PartialEq, Eq, Debug)]
 pub struct Replied {
     pub written: usize,
     pub answer: Result<(), Refusal>,

@@ -1,8 +1,11 @@
 // The frames of a report, each a line of hexadecimal that ends in a line feed.
 ghost use Rattle.std.specs.Prelude.{◌≡◌, ◌+◌, ◌*◌, ◌≤◌, [], ◌∷◌, ◌++◌, length};
-ghost use Rattle.runs.specs.Report.{Placed, report_line, answer_payload, firing_payload, totals_payload};
+ghost use Rattle.runs.specs.Frames.{frame_payload, firing_frame};
+ghost use Rattle.runs.specs.Report.{Placed, report_line, answer_payload, totals_payload};
 
 use frames::write::write_frame;
+use queue_rules::firing::Firing;
+use times::Plain;
 
 // Writes the frame of a payload at a place of the buffer, and answers the place behind it.
 fn put_line(buffer: &mut [u8], at: usize, payload: &[u8]) -> usize
@@ -34,22 +37,15 @@ pub(crate) fn put_answer(
 }
 
 // Writes a firing: the timer's number, the mark, and the plain forms of its wake, soft and hard time.
-pub(crate) fn put_firing(
-    buffer: &mut [u8],
-    at: usize,
-    number: u32,
-    mark: u8,
-    wake: u64,
-    soft: u64,
-    hard: u64,
-) -> usize
+pub(crate) fn put_firing<T: Plain>(buffer: &mut [u8], at: usize, entry: &Firing<T>) -> usize
     requires { at + 63 ≤ length buffer.old }
-    ensures { Placed (report_line (firing_payload number mark wake soft hard)) at buffer.old buffer.new result }
+    ensures { Placed (report_line (frame_payload (firing_frame T.Plain.plain entry.now))) at buffer.old buffer.new result }
 {
-    let [n0, n1, n2, n3] = number.to_be_bytes();
-    let [w0, w1, w2, w3, w4, w5, w6, w7] = wake.to_be_bytes();
-    let [s0, s1, s2, s3, s4, s5, s6, s7] = soft.to_be_bytes();
-    let [h0, h1, h2, h3, h4, h5, h6, h7] = hard.to_be_bytes();
+    let mark = u8::from(entry.mark);
+    let [n0, n1, n2, n3] = entry.number.to_be_bytes();
+    let [w0, w1, w2, w3, w4, w5, w6, w7] = entry.wake.to_plain().to_be_bytes();
+    let [s0, s1, s2, s3, s4, s5, s6, s7] = entry.soft.to_plain().to_be_bytes();
+    let [h0, h1, h2, h3, h4, h5, h6, h7] = entry.hard.to_plain().to_be_bytes();
     let payload = [
         0x91, n0, n1, n2, n3, mark, w0, w1, w2, w3, w4, w5, w6, w7, s0, s1, s2, s3, s4, s5, s6, s7,
         h0, h1, h2, h3, h4, h5, h6, h7,

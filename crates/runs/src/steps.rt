@@ -36,10 +36,7 @@ fn read_advance<T: Plain>(to: u64) -> Result<Step<T>, RunFault>
 fn timer_by_purpose<T: Measured>(number: u32, purpose: u8, clock: T) -> Result<Timer<T>, RunFault>
     ensures { result ≡ purposed (capped T.Measured.place T.Measured.at T.Measured.last clock) number purpose }
 {
-    let Ok(purpose) = Purpose::new(purpose) else {
-        return Err(RunFault::UnknownPurpose);
-    };
-    let (soft, hard) = purpose.offsets();
+    let (soft, hard) = Purpose::try_from(purpose)?.offsets();
     Ok(Timer {
         number,
         soft: clock.ahead(soft),

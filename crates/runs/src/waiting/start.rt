@@ -17,14 +17,7 @@ use timer_queue::queue::TimerQueue;
 fn starts_at(accepted: Option<Opening>, kind: TimeKind, clock: u64) -> bool
     ensures { result ≡ startable accepted kind clock }
 {
-    let Some(opening) = accepted else {
-        return false;
-    };
-    match (opening.kind, kind) {
-        (TimeKind::Ticks, TimeKind::Ticks) => opening.start == clock,
-        (TimeKind::DayTicks, TimeKind::DayTicks) => opening.start == clock,
-        _ => false,
-    }
+    accepted.is_some_and(|opening| opening.kind == kind && opening.start == clock)
 }
 
 impl WaitingRun {
@@ -52,12 +45,8 @@ impl WaitingRun {
         ensures started { MatchResult result (λ _. Started T.Time.before A.AlarmDevice.clock A.AlarmDevice.due queue.old queue.new alarm.old alarm.new) (λ _. (queue.new ≡ queue.old) × (A.AlarmDevice.clock alarm.new ≡ A.AlarmDevice.clock alarm.old) × (A.AlarmDevice.due alarm.new ≡ A.AlarmDevice.due alarm.old)) }
         ensures spared { Spared queue.old.inner queue.new.inner }
     {
-        match self.open_at(alarm.clock()) {
-            Ok(run) => {
-                queue.start(alarm);
-                Ok(run)
-            }
-            Err(back) => Err(back),
-        }
+        let run = self.open_at(alarm.clock())?;
+        queue.start(alarm);
+        Ok(run)
     }
 }
