@@ -1,107 +1,64 @@
 // An open run on a board: a queue over lent slots, and the alarm device that was asked for.
-use crate::desk::Desk;
+use crate::desk::{Desk, Hears, LENT};
 use alarm_chains::ChainedAlarm;
-use alarms::{Alarm, AlarmDevice, Comparator, ShortAlarm};
+use alarms::{Alarm, AlarmDevice, Comparator};
 use queue_rules::firing::Firing;
 use runs::closed::ClosedRun;
 use runs::kinds::NamedTime;
 use runs::open::OpenRun;
 use runs::opening::{Device, Opening};
+use runs::replies::Replied;
 use runs::waiting::WaitingRun;
 use short_alarms::{DownCounter, LowBitMatcher};
 use slot_heaps::slots::Slot;
 use std::alloc::Global;
 use timer_queue::queue::TimerQueue;
-use times::Time;
 
-// Slots and log entries that are lent, and room for the report of a line that fires them all.
-const LENT: usize = 512;
-
-const ROOM: usize = 63 * 512 + 23;
-
-fn vacant_slots<T: Time>(filler: T, heap: Global) -> anyhow::Result<Vec<Slot<T>>> {
-    let mut slots = Vec::new(heap);
-    for _ in 0..LENT {
-        slots.push(Slot::vacant(filler))?;
+impl Hears for WaitingRun {
+    fn hear(&mut self, line: &[u8], buffer: &mut [u8]) -> Replied {
+        self.line(line, buffer)
     }
-    Ok(slots)
 }
 
-// What an entry holds is written before it is read.
-fn blank_log<T: Time>(filler: T, heap: Global) -> anyhow::Result<Vec<Firing<T>>> {
-    let mut log = Vec::new(heap);
-    for _ in 0..LENT {
-        log.push(Firing {
-            number: 0,
-            mark: false,
-            wake: filler,
-            soft: filler,
-            hard: filler,
-        })?;
+impl Hears for ClosedRun {
+    fn hear(&mut self, _line: &[u8], buffer: &mut [u8]) -> Replied {
+        self.late_line(buffer)
     }
-    Ok(log)
 }
 
-// Hands the next line to the closed run; false at the end of the input.
-fn late_line(run: &mut ClosedRun, desk: &mut Desk, buffer: &mut [u8]) -> anyhow::Result<bool> {
-    let Some(_) = desk.next_line()? else {
-        return Ok(false);
-    };
-    let replied = run.late_line(buffer);
-    let written = replied.written;
-    desk.put(&buffer[0..written])?;
-    Ok(true)
+// An open run, with the queue, the alarm and the log that are lent to it with each line.
+#[derive(Drop)]
+struct Board<'a, T: NamedTime, A: Alarm<T>> {
+    run: OpenRun<T>,
+    queue: TimerQueue<'a, T>,
+    alarm: A,
+    log: Vec<Firing<T>>,
 }
 
-// Hands lines to the closed run, and at the end of the input writes its totals.
-fn finish(mut run: ClosedRun, desk: &mut Desk, buffer: &mut [u8]) -> anyhow::Result<()> {
-    for _ in 0..u64::MAX {
-        if !late_line(&mut run, desk, buffer)? {
-            break;
-        }
+impl<'a, T: NamedTime, A: Alarm<T>> Hears for Board<'a, T, A> {
+    fn hear(&mut self, line: &[u8], buffer: &mut [u8]) -> Replied {
+        self.run.line(
+            &mut self.queue,
+            &mut self.alarm,
+            line,
+            &mut self.log,
+            buffer,
+        )
     }
-    if let Ok(written) = run.totals(buffer) {
-        desk.put(&buffer[0..written])?;
-    }
-    Ok(())
 }
 
-// Hands the next line to the open run; false at the end of the input.
-fn open_line<T: NamedTime, A: Alarm<T>>(
-    run: &mut OpenRun<T>,
-    queue: &mut TimerQueue<'_, T>,
-    alarm: &mut A,
-    log: &mut [Firing<T>],
+// Hands lines to the open run until it can be closed, and then the rest to the closed run, whose totals end the report.
+fn play<T: NamedTime, A: Alarm<T> + Drop>(
+    mut board: Board<'_, T, A>,
     desk: &mut Desk,
-    buffer: &mut [u8],
-) -> anyhow::Result<bool> {
-    let Some(line) = desk.next_line()? else {
-        return Ok(false);
-    };
-    let replied = run.line(queue, alarm, line.as_slice(), log, buffer);
-    let written = replied.written;
-    desk.put(&buffer[0..written])?;
-    Ok(true)
-}
-
-// Hands lines to the open run until it can be closed, and then the rest to the closed run.
-fn play<T: NamedTime, A: Alarm<T>>(
-    mut run: OpenRun<T>,
-    queue: &mut TimerQueue<'_, T>,
-    alarm: &mut A,
-    log: &mut [Firing<T>],
-    desk: &mut Desk,
-    buffer: &mut [u8],
 ) -> anyhow::Result<()> {
-    for _ in 0..u64::MAX {
-        if !open_line(&mut run, queue, alarm, log, desk, buffer)? || run.is_closing() {
-            break;
-        }
-    }
-    match run.close(queue) {
-        Ok(closed) => finish(closed, desk, buffer),
-        Err((_, _)) => Ok(()),
-    }
+    desk.answer_until(&mut board, |board: &Board<'_, T, A>| board.run.is_closing())?;
+    let Ok(mut closed) = board.run.close(&board.queue) else {
+        return Ok(());
+    };
+    desk.answer_until(&mut closed, |_: &ClosedRun| false)?;
+    desk.put_totals(&closed)?;
+    Ok(())
 }
 
 // Opens the run with this alarm, and plays it to the end of the input.
@@ -112,14 +69,29 @@ fn run_on<T: NamedTime, A: Alarm<T> + Drop>(
     heap: Global,
 ) -> anyhow::Result<()> {
     let filler = alarm.clock();
-    let mut slots = vacant_slots(filler, heap)?;
-    let mut log = blank_log(filler, heap)?;
-    let mut buffer = vec![in heap; 0; ROOM]?;
+    let mut slots = vec![in heap; Slot::vacant(filler); LENT]?;
+    // What an entry holds is written before it is read.
+    let blank = Firing {
+        number: 0,
+        mark: false,
+        wake: filler,
+        soft: filler,
+        hard: filler,
+    };
+    let log = vec![in heap; blank; LENT]?;
     let mut queue = TimerQueue::over(&mut slots);
-    match waiting.open(&mut queue, &mut alarm) {
-        Ok(run) => play(run, &mut queue, &mut alarm, &mut log, desk, &mut buffer),
-        Err((_, _)) => Ok(()),
-    }
+    let Ok(run) = waiting.open(&mut queue, &mut alarm) else {
+        return Ok(());
+    };
+    play(
+        Board {
+            run,
+            queue,
+            alarm,
+            log,
+        },
+        desk,
+    )
 }
 
 // Makes the alarm that was asked for, at the start time.

@@ -1,12 +1,20 @@
 // Where lines come from and frames of the report go to.
-ghost use Rattle.std.specs.Prelude.{◌≤◌};
+ghost use Rattle.std.specs.Prelude.{◌≤◌, length};
 
 use lines::line::Line;
 use lines::splitter::LineSplitter;
+use runs::closed::ClosedRun;
+use runs::replies::Replied;
 use std::io;
 use std::io::{BufWriter, Read, Stdin, Stdout, Write};
 
-// The part of the input that was read last, and how much of it was taken.
+// Slots and log entries that are lent to a run.
+pub(crate) const LENT: usize = 512;
+
+// Room for the report of a line that fires them all.
+const ROOM: usize = 63 * LENT + 23;
+
+// The part of the input that was read last, and how much of it was taken. The library's reader lends no part of its buffer.
 #[derive(Drop)]
 struct Piece {
     bytes: [u8; 65536],
@@ -20,9 +28,16 @@ struct Piece {
 pub(crate) struct Desk {
     input: Stdin,
     piece: Piece,
-    splitter: LineSplitter,
-    ended: bool,
+    // None once the input has ended
+    splitter: Option<LineSplitter>,
+    reply: Vec<u8>,
     output: BufWriter<Stdout>,
+}
+
+// A run, in whatever state: it answers a line in a buffer.
+pub(crate) trait Hears {
+    fn hear(&mut self, line: &[u8], buffer: &mut [u8]) -> Replied
+        ensures { result.written ≤ length buffer.old };
 }
 
 // The next line that ends in the piece; what is left of it belongs to a line that goes on.
@@ -42,7 +57,7 @@ fn refill(piece: &mut Piece, input: &mut Stdin) -> io::Result<bool> {
 }
 
 impl Desk {
-    pub(crate) fn new(rt: HostRuntime) -> io::Result<Desk> {
+    pub(crate) fn new(rt: HostRuntime) -> anyhow::Result<Desk> {
         Ok(Desk {
             input: rt.stdin(),
             piece: Piece {
@@ -50,32 +65,61 @@ impl Desk {
                 at: 0,
                 end: 0,
             },
-            splitter: LineSplitter::new(),
-            ended: false,
+            splitter: Some(LineSplitter::new()),
+            reply: vec![in rt.alloc(); 0; ROOM]?,
             output: BufWriter::new(rt.alloc(), rt.stdout())?,
         })
     }
 
     // The next line of the input, or none at its end.
-    pub(crate) fn next_line(&mut self) -> io::Result<Option<Line>> {
+    fn next_line(&mut self) -> io::Result<Option<Line>> {
         for _ in 0..u64::MAX {
-            if self.ended {
+            let Some(splitter) = &mut self.splitter else {
                 break;
-            }
-            if let Some(line) = next_in(&mut self.piece, &mut self.splitter) {
+            };
+            if let Some(line) = next_in(&mut self.piece, splitter) {
                 return Ok(Some(line));
             }
             if !refill(&mut self.piece, &mut self.input)? {
-                self.ended = true;
-                return Ok(self.splitter.finish());
+                return Ok(self.splitter.take().and_then(|rest| rest.finish()));
             }
         }
         Ok(None)
     }
 
-    // Hands on frames of the report.
-    pub(crate) fn put(&mut self, frames: &[u8]) -> io::Result<()> {
-        self.output.write_all(frames)
+    // Hands the next line to the run, and its reply on; false at the end of the input.
+    fn answer<H: Hears>(&mut self, run: &mut H) -> anyhow::Result<bool> {
+        let Some(line) = self.next_line()? else {
+            return Ok(false);
+        };
+        let replied = run.hear(line.as_slice(), &mut self.reply);
+        let written = replied.written;
+        self.output.write_all(&self.reply[0..written])?;
+        Ok(true)
+    }
+
+    // Hands lines to the run until it is done, or the input ends.
+    pub(crate) fn answer_until<H: Hears, F: Fn(&H) -> bool>(
+        &mut self,
+        run: &mut H,
+        done: F,
+    ) -> anyhow::Result<()>
+        requires { (state : F) (x : _) → F.pre state x }
+    {
+        for _ in 0..u64::MAX {
+            if !self.answer(run)? || done(run) {
+                break;
+            }
+        }
+        Ok(())
+    }
+
+    // Writes the totals that a closed run gives.
+    pub(crate) fn put_totals(&mut self, run: &ClosedRun) -> io::Result<()> {
+        match run.totals(&mut self.reply) {
+            Ok(written) => self.output.write_all(&self.reply[0..written]),
+            Err(_) => Ok(()),
+        }
     }
 
     pub(crate) fn flush(&mut self) -> io::Result<()> {

@@ -7,45 +7,16 @@ mod desk;
 
 use boards::run_at;
 use desk::Desk;
-use runs::opening::{Opening, TimeKind};
+use runs::opening::TimeKind;
 use runs::waiting::WaitingRun;
-use std::alloc::Global;
 use times::{DayTick, Tick};
-
-// Hands the next line to the waiting run; false at the end of the input.
-fn wait_for_line(run: &mut WaitingRun, desk: &mut Desk, buffer: &mut [u8]) -> anyhow::Result<bool> {
-    let Some(line) = desk.next_line()? else {
-        return Ok(false);
-    };
-    let replied = run.line(line.as_slice(), buffer);
-    let written = replied.written;
-    desk.put(&buffer[0..written])?;
-    Ok(true)
-}
-
-// Hands lines to the waiting run until it accepts an open frame.
-fn wait(
-    run: &mut WaitingRun,
-    desk: &mut Desk,
-    buffer: &mut [u8],
-) -> anyhow::Result<Option<Opening>> {
-    for _ in 0..u64::MAX {
-        if !wait_for_line(run, desk, buffer)? {
-            break;
-        }
-        if let Some(opening) = run.accepted() {
-            return Ok(Some(opening));
-        }
-    }
-    Ok(None)
-}
 
 fn main(rt: HostRuntime) -> anyhow::Result<()> {
     let heap = rt.alloc();
     let mut desk = Desk::new(rt)?;
     let mut run = WaitingRun::new();
-    let mut buffer = [0; 23];
-    if let Some(opening) = wait(&mut run, &mut desk, &mut buffer)? {
+    desk.answer_until(&mut run, |run: &WaitingRun| run.accepted().is_some())?;
+    if let Some(opening) = run.accepted() {
         match opening.kind {
             TimeKind::Ticks => run_at::<Tick>(run, opening, &mut desk, heap)?,
             TimeKind::DayTicks => run_at::<DayTick>(run, opening, &mut desk, heap)?,
