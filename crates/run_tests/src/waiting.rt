@@ -1,42 +1,41 @@
-// Lines to a waiting run; 0 stands for a line that is carried out.
+// Lines to a waiting run.
 use runs::waiting::WaitingRun;
 
-fn answered(run: &mut WaitingRun, line: &[u8]) -> u8 {
+// The number of the refusal, or none where the line is carried out.
+fn refusal(run: &mut WaitingRun, line: &[u8]) -> Option<u8> {
     let mut buffer = [0; 23];
-    match run.line(line, &mut buffer).answer {
-        Ok(()) => 0,
-        Err(refusal) => refusal.fault.number(),
-    }
+    let refused = run.line(line, &mut buffer).answer.err()?;
+    Some(refused.fault.number())
 }
 
 // Of an open frame the device comes before the time, and after an accepted one nothing is heard.
 #[test]
 fn opening(rt: HostRuntime) {
     let mut run = WaitingRun::new();
-    assert_eq!(rt; answered(&mut run, b"0505"), 0x41, "a close frame");
+    assert_eq!(rt; refusal(&mut run, b"0505"), Some(0x41), "a close frame");
     assert_eq!(rt;
-        answered(&mut run, b"010200000000000000000003"),
-        0x24,
+        refusal(&mut run, b"010200000000000000000003"),
+        Some(0x24),
         "time kind 02"
     );
     assert_eq!(rt;
-        answered(&mut run, b"010003400000000000000044"),
-        0x24,
+        refusal(&mut run, b"010003400000000000000044"),
+        Some(0x24),
         "device 03, and no such tick"
     );
     assert_eq!(rt;
-        answered(&mut run, b"010000400000000000000041"),
-        0x23,
+        refusal(&mut run, b"010000400000000000000041"),
+        Some(0x23),
         "no such tick"
     );
     assert!(rt; run.accepted().is_none());
     assert_eq!(rt;
-        answered(&mut run, b"010001000000000000000002"),
-        0,
+        refusal(&mut run, b"010001000000000000000002"),
+        None,
         "an open frame"
     );
     assert!(rt; run.accepted().is_some());
-    assert_eq!(rt; answered(&mut run, b""), 0x43, "before it is opened");
+    assert_eq!(rt; refusal(&mut run, b""), Some(0x43), "before it is opened");
 }
 
 // A refused line is answered and counted, and one without room is neither.
