@@ -1,7 +1,7 @@
 -- The loop of a wake-up: entries so far, and the timers that are left.
-use Rattle.std.proofs.Common.{◌≡◌, ℕ, ◌+◌, ◌<◌, Bool, false, ltb, List, [], ◌∷◌, ◌++◌, map, length, set, Some, sym, ap, ◌∙◌, arith}
+use Rattle.std.proofs.Common.{◌≡◌, ℕ, ◌+◌, ◌<◌, Bool, false, ltb, List, [], ◌∷◌, ◌++◌, map, length, take, drop, set, Some, sym, ap, ap₂, ◌∙◌, zero-add, arith}
 use Rattle.std.specs.List.{AllByRecursion}
-use Rattle.std.proofs.lemmas.List.{length_push}
+use Rattle.std.proofs.lemmas.List.{length_push, drop-drop}
 use Rattle.std.proofs.lemmas.Bool.{not_from_false, le-ltb}
 use Rattle.heap_links.specs.declared.slots.Slot.{Slot}
 use Rattle.heap_links.specs.declared.timer.Timer.{Timer}
@@ -9,7 +9,7 @@ use Rattle.slot_heaps.specs.Firsts.{First}
 use Rattle.slot_heaps.specs.Pending.{listed, Inserted}
 use Rattle.times.specs.Order.{StrictOrder}
 use Rattle.queue_rules.specs.declared.firing.Firing.{Firing}
-use Rattle.timer_queue.specs.Firings.{Fired}
+use Rattle.timer_queue.specs.Firings.{fired, Fired}
 use Rattle.timer_queue.specs.Logs.{logged_at}
 use Rattle.queue_rules.specs.Timers.{Distinct, by_soft}
 use Rattle.queue_rules.specs.WakeUps.{entry, ripe}
@@ -65,6 +65,19 @@ module _ {A : Type 0} (before : A → A → Bool) (o : StrictOrder before) (w : 
         count = ap (λ l. length ys + length l) (sym p.0) ∙ f.count;
         rest = p.1;
       }
+
+-- what is fired into the back of a log, told of the whole log
+pub fired_behind : {A : Type 0} (before : A → A → Bool) (w : A) (m : ℕ) (xs ys : List (Timer A)) (n : ℕ) (old front back part : List (Firing A)) →
+    front ≡ take n old → back ≡ drop n old → Fired before w m xs ys 0 back part → Fired before w m xs ys n old (front ++ part)
+fired_behind before w m xs ys n old front back part f b r =
+    let fs = fired before w m xs in
+    record {
+      log = ap₂ (λ a l. a ++ l) f
+          (r.log ∙ ap (λ l. fs ++ drop (0 + length fs) l) b ∙ ap (λ l. fs ++ l) (drop-drop (0 + length fs) n old)
+          ∙ ap (λ k. fs ++ drop (n + k) old) (zero-add (length fs)));
+      count = r.count;
+      rest = r.rest;
+    }
 
 -- no slot is pending
 pub listed_none : {A : Type 0} (n : ℕ) (ss : List (Slot A)) → n ≡ 0 → listed n ss ≡ []

@@ -43,14 +43,8 @@ pub(crate) fn serve<T: Time, A: Alarm<T>>(
         let Some((_, forcing)) = first_by_hard(slots, left) else {
             break;
         };
-        let rest = fire(
-            slots,
-            left,
-            forcing.hard,
-            forcing.number,
-            log,
-            (pending - left) as usize,
-        );
+        let (_, unlogged) = log.split_at_mut(usize::from(pending - left));
+        let rest = fire(slots, left, forcing.hard, forcing.number, unlogged);
         if rest == left {
             break;
         }

@@ -1,5 +1,5 @@
 // A wake-up: the ripe timers leave the heaps in the order of the log.
-ghost use Rattle.std.specs.Prelude.{◌≡◌, ◌+◌, ◌<◌, ◌≤◌, length, Some, slice_set};
+ghost use Rattle.std.specs.Prelude.{◌≡◌, ◌+◌, ◌≤◌, length, Some};
 ghost use Rattle.slot_heaps.specs.Pending.{listed, Standing};
 ghost use Rattle.key_heaps.specs.Sifts.{BothHeaped};
 ghost use Rattle.timer_queue.specs.Firings.{Fired};
@@ -12,13 +12,6 @@ use slot_heaps::roots::{first_by_hard, first_by_soft};
 use slot_heaps::slots::Slot;
 use slot_heaps::timer::Timer;
 use times::Time;
-
-fn note<T: Time>(log: &mut [Firing<T>], at: usize, firing: Firing<T>)
-    requires { at < length log.old }
-    ensures { log.new ≡ slice_set log.old at firing }
-{
-    log[at] = firing;
-}
 
 // The entry of a timer, which carries the mark if it forced the wake-up.
 fn entry_of<T: Time>(timer: Timer<T>, wake: T, forcing: u32) -> Firing<T>
@@ -34,33 +27,32 @@ fn entry_of<T: Time>(timer: Timer<T>, wake: T, forcing: u32) -> Firing<T>
     }
 }
 
-// Fires every timer whose soft time is not after the wake time, logs it from place `at` on, and answers how many timers are left.
+// Fires every timer whose soft time is not after the wake time, logs them from the start of the log, and answers how many timers are left.
 pub(crate) fn fire<T: Time>(
     slots: &mut [Slot<T>],
     pending: u16,
     wake: T,
     forcing: u32,
     log: &mut [Firing<T>],
-    at: usize,
 ) -> u16
     requires standing { Standing pending slots.old }
-    requires room { at + pending ≤ length log.old }
+    requires room { pending ≤ length log.old }
     ensures standing { Standing result slots.new }
     ensures fewer { result ≤ pending }
     ensures held { length (listed result slots.new) + pending ≡ length (listed pending slots.old) + result }
     ensures ordered { BothHeaped T.Time.before pending slots.old → BothHeaped T.Time.before result slots.new }
-    ensures fired { BothHeaped T.Time.before pending slots.old → Distinct (listed pending slots.old) → Fired T.Time.before wake forcing (listed pending slots.old) (listed result slots.new) at log.old log.new }
+    ensures fired { BothHeaped T.Time.before pending slots.old → Distinct (listed pending slots.old) → Fired T.Time.before wake forcing (listed pending slots.old) (listed result slots.new) 0 log.old log.new }
 {
     let mut left = pending;
-    let mut next = at;
-    while let Some((slot, first)) = first_by_soft(slots, left) {
+    for entry in log {
+        let Some((slot, first)) = first_by_soft(slots, left) else {
+            break;
+        };
         if wake.before(first.soft) {
             break;
         }
         left -= 1;
-        let timer = remove(slots, slot, left);
-        note(log, next, entry_of(timer, wake, forcing));
-        next += 1;
+        *entry = entry_of(remove(slots, slot, left), wake, forcing);
     }
     left
 }

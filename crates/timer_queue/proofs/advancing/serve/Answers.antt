@@ -2,7 +2,7 @@ use Rattle.std.proofs.Common.{◌≡◌, ℕ, ◌+◌, length, sym, refl, ◌∙
 use Rattle.alarms.specs.Meaning.{NotPast}
 use Rattle.slot_heaps.specs.Pending.{listed, Standing}
 use Rattle.key_heaps.specs.Sifts.{BothHeaped}
-use Rattle.timer_queue.proofs.FiringLoop.{listed_none}
+use Rattle.timer_queue.proofs.FiringLoop.{fired_behind, listed_none}
 use Rattle.timer_queue.proofs.ServingLoop.{serve_begins, serve_counts, serve_ends, wake_ahead, wake_fires, wake_serves, none_rings}
 use Rattle.timer_queue.proofs.advancing.serve.Goals as goal
 
@@ -28,7 +28,8 @@ loop-t-preserved g c =
           let heap = inv.3 r.heaped in
           let top = c.in-Some.ensures.2 heap.0 in
           let rung = c.loop-t-test.ensures s.clock in
-          let fired = f.fired heap s.distinct in
+          let split = c.split_at_mut-unlogged.ensures in
+          let fired = fired_behind g.T.Time.before c.in-Some.forcing.hard c.in-Some.forcing.number _ _ _ c.loop-t.log _ _ _ split.front split.back (f.fired heap s.distinct) in
           let ahead = wake_ahead g.T.Time.before g.met.T.Time.ordered c.args.t (listed c.args.pending c.args.slots.now) c.args.log.now c.loop-t.wakes c.loop-t.log (listed c.loop-t.left c.loop-t.slots) _ _ _ _ c.in-Some.forcing s rung top _ _ _ fired in
           let least = c.least.ensures (f.ordered heap) in
           let due = c.aim.ensures.due (subst (NotPast g.T.Time.before (g.A.AlarmDevice.clock c.rings.new.alarm)) (sym least) ahead) ∙ least in
@@ -70,6 +71,7 @@ pub returns-then-rest-left : goal.returns-then-rest-left
 returns-then-rest-left g c =
     let inv = c.loop-t.invariant in
     let f = c.fire-rest.ensures in
+    let split = c.split_at_mut-unlogged.ensures in
     let same : c.fire-rest.result ≡ c.loop-t.left = c.if-rest-left.true in
     let held : length (listed c.loop-t.left c.fire-rest.new.slots) + c.loop-t.left ≡ length (listed c.loop-t.left c.loop-t.slots) + c.loop-t.left =
     subst (λ (n : ℕ). length (listed n c.fire-rest.new.slots) + c.loop-t.left ≡ length (listed c.loop-t.left c.loop-t.slots) + n) same f.held in
@@ -83,12 +85,14 @@ returns-then-rest-left g c =
           let s = inv.4 r in
           let heap = inv.3 r.heaped in
           let top = c.in-Some.ensures.2 heap.0 in
-          let fires = wake_fires g.T.Time.before g.met.T.Time.ordered c.args.t (listed c.args.pending c.args.slots.now) c.args.log.now c.loop-t.wakes c.loop-t.log (listed c.loop-t.left c.loop-t.slots) _ _ _ _ c.in-Some.forcing s (c.loop-t-test.ensures s.clock) top _ _ _ (f.fired heap s.distinct) in
+          let fired = fired_behind g.T.Time.before c.in-Some.forcing.hard c.in-Some.forcing.number _ _ _ c.loop-t.log _ _ _ split.front split.back (f.fired heap s.distinct) in
+          let fires = wake_fires g.T.Time.before g.met.T.Time.ordered c.args.t (listed c.args.pending c.args.slots.now) c.args.log.now c.loop-t.wakes c.loop-t.log (listed c.loop-t.left c.loop-t.slots) _ _ _ _ c.in-Some.forcing s (c.loop-t-test.ensures s.clock) top _ _ _ fired in
           absurd (omega (arith, fires, f.held, same));
       counted = λ r.
           let s = inv.4 r in
           let heap = inv.3 r.heaped in
           let top = c.in-Some.ensures.2 heap.0 in
-          let fires = wake_fires g.T.Time.before g.met.T.Time.ordered c.args.t (listed c.args.pending c.args.slots.now) c.args.log.now c.loop-t.wakes c.loop-t.log (listed c.loop-t.left c.loop-t.slots) _ _ _ _ c.in-Some.forcing s (c.loop-t-test.ensures s.clock) top _ _ _ (f.fired heap s.distinct) in
+          let fired = fired_behind g.T.Time.before c.in-Some.forcing.hard c.in-Some.forcing.number _ _ _ c.loop-t.log _ _ _ split.front split.back (f.fired heap s.distinct) in
+          let fires = wake_fires g.T.Time.before g.met.T.Time.ordered c.args.t (listed c.args.pending c.args.slots.now) c.args.log.now c.loop-t.wakes c.loop-t.log (listed c.loop-t.left c.loop-t.slots) _ _ _ _ c.in-Some.forcing s (c.loop-t-test.ensures s.clock) top _ _ _ fired in
           absurd (omega (arith, fires, f.held, same));
     }
