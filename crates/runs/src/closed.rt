@@ -25,10 +25,13 @@ impl ClosedRun {
     pub fn late_line(&mut self, buffer: &mut [u8]) -> Replied
         ensures reply { RepliedBy (closed_line (length buffer.old) (tally_of self.old.counts) self.old.pending) (tally_of self.new.counts) self.new.pending buffer.old buffer.new result }
     {
-        if let Some(fault) = self.counts.unanswered(buffer.len(), self.pending) {
-            return ignore(self.counts, fault);
-        }
-        refuse(&mut self.counts, buffer, RunFault::NotNow)
+        let next = match self.counts.next_line(buffer.len(), self.pending) {
+            Ok(next) => next,
+            Err(fault) => return ignore(self.counts, fault),
+        };
+        let (counts, replied) = refuse(next, buffer, RunFault::NotNow);
+        self.counts = counts;
+        replied
     }
 
     // Writes the totals frame, and answers its length; it needs 25 bytes.

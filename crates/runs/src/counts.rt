@@ -1,5 +1,5 @@
 // What a run counts: its lines, and the wake-ups and firings of its advances.
-ghost use Rattle.std.specs.Prelude.{◌*◌, ◌≤◌};
+ghost use Rattle.std.specs.Prelude.{◌*◌, ◌<◌, ◌≤◌};
 
 mod counting;
 
@@ -10,4 +10,11 @@ pub struct Counts {
     wakes: u32,
     firings: u32,
     ghost few: { (lines ≤ 1000000) × (wakes ≤ 4096 * lines) × (firings ≤ 4096 * lines) },
+}
+
+// The counts of a run that has room for one line more, which is counted whatever comes of it.
+#[derive(Clone, Copy)]
+pub(crate) struct NextLine {
+    pub(crate) counts: Counts,
+    ghost few: { counts.lines < 1000000 },
 }

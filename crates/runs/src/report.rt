@@ -24,15 +24,14 @@ pub(crate) fn put_answer(
     at: usize,
     line: u32,
     refusal: u8,
-    wakes: u16,
-    firings: u16,
+    served: (u16, u16),
 ) -> usize
     requires { at + 23 ≤ length buffer.old }
-    ensures { Placed (report_line (answer_payload line refusal wakes firings)) at buffer.old buffer.new result }
+    ensures { Placed (report_line (answer_payload line refusal served.0 served.1)) at buffer.old buffer.new result }
 {
     let [l0, l1, l2, l3] = line.to_be_bytes();
-    let [w0, w1] = wakes.to_be_bytes();
-    let [f0, f1] = firings.to_be_bytes();
+    let [w0, w1] = served.0.to_be_bytes();
+    let [f0, f1] = served.1.to_be_bytes();
     put_line(buffer, at, &[0x90, l0, l1, l2, l3, refusal, w0, w1, f0, f1])
 }
 

@@ -1,7 +1,7 @@
-ghost use Rattle.std.specs.Prelude.{◌≡◌, ◌+◌, ◌<◌, ◌≤◌};
+ghost use Rattle.std.specs.Prelude.{◌≡◌, ◌+◌, ◌≤◌, Some, None, MatchResult};
 ghost use Rattle.runs.specs.Replies.{tally_of, nothing, counting, unanswered};
 
-use super::Counts;
+use super::{Counts, NextLine};
 use crate::faults::RunFault;
 
 // How many lines are counted at most.
@@ -37,29 +37,37 @@ impl Counts {
         self.lines + 1
     }
 
-    // Why a line is not even counted.
-    pub(crate) fn unanswered(self, room: usize, pending: u16) -> Option<RunFault>
-        ensures { result ≡ unanswered room pending (tally_of self) }
+    // The next line, or why it is not even counted.
+    pub(crate) fn next_line(self, room: usize, pending: u16) -> Result<NextLine, RunFault>
+        ensures { MatchResult result (λ next. (next.counts ≡ self) × (unanswered room pending (tally_of self) ≡ None)) (λ fault. unanswered room pending (tally_of self) ≡ Some fault) }
     {
         if room < 63 * usize::from(pending) + 23 {
-            return Some(RunFault::ShortBuffer);
+            return Err(RunFault::ShortBuffer);
         }
         if self.lines >= MOST_LINES {
-            return Some(RunFault::TooManyLines);
+            return Err(RunFault::TooManyLines);
         }
-        None
+        Ok(NextLine { counts: self })
+    }
+}
+
+impl NextLine {
+    pub(crate) fn number(self) -> u32
+        ensures { result ≡ self.counts.lines + 1 }
+    {
+        self.counts.next()
     }
 
-    // Counts a line, and its wake-ups and firings.
-    pub(crate) fn count(&mut self, wakes: u16, firings: u16)
-        requires few { self.old.lines < 1000000 }
-        requires small { (wakes ≤ 4096) × (firings ≤ 4096) }
-        ensures { tally_of self.new ≡ counting (tally_of self.old) wakes firings }
+    // The counts once this line is counted, with its wake-ups and its firings.
+    pub(crate) fn counted(self, served: (u16, u16)) -> Counts
+        requires { (served.0 ≤ 4096) × (served.1 ≤ 4096) }
+        ensures { tally_of result ≡ counting (tally_of self.counts) served.0 served.1 }
     {
-        *self = Counts {
-            lines: self.lines + 1,
-            wakes: self.wakes + u32::from(wakes),
-            firings: self.firings + u32::from(firings),
-        };
+        let (wakes, firings) = served;
+        Counts {
+            lines: self.counts.lines + 1,
+            wakes: self.counts.wakes + u32::from(wakes),
+            firings: self.counts.firings + u32::from(firings),
+        }
     }
 }

@@ -33,7 +33,6 @@ impl<T: Plain> OpenRun<T> {
         ensures few { IfOk result (λ n. (n.0 ≤ length (queue_timers queue.old)) × (n.1 ≤ length (queue_timers queue.old)) × (n.1 ≤ length log.old)) }
         ensures refused { Untouched result queue.old queue.new (A.AlarmDevice.clock alarm.old) (A.AlarmDevice.clock alarm.new) (A.AlarmDevice.due alarm.old) (A.AlarmDevice.due alarm.new) log.old log.new }
         ensures spared { Spared queue.old.inner queue.new.inner }
-        ensures counts { self.new.counts ≡ self.old.counts }
     {
         let step = self.step(line, alarm.clock())?;
         let counts = perform(queue, alarm, step, log)?;
@@ -56,10 +55,13 @@ impl<T: Plain> OpenRun<T> {
         ensures refused { Untouched result.answer queue.old queue.new (A.AlarmDevice.clock alarm.old) (A.AlarmDevice.clock alarm.new) (A.AlarmDevice.due alarm.old) (A.AlarmDevice.due alarm.new) log.old log.new }
         ensures spared { Spared queue.old.inner queue.new.inner }
     {
-        if let Some(fault) = self.counts.unanswered(buffer.len(), queue.pending()) {
-            return ignore(self.counts, fault);
-        }
+        let next = match self.counts.next_line(buffer.len(), queue.pending()) {
+            Ok(next) => next,
+            Err(fault) => return ignore(self.counts, fault),
+        };
         let outcome = self.carry_out(queue, alarm, line, log);
-        finish(&mut self.counts, outcome, log, buffer)
+        let (counts, replied) = finish(next, outcome, log, buffer);
+        self.counts = counts;
+        replied
     }
 }

@@ -26,15 +26,18 @@ impl WaitingRun {
         ensures reply { RepliedBy (waiting_line (length buffer.old) (tally_of self.old.counts) self.old.accepted line.now) (tally_of self.new.counts) self.new.accepted buffer.old buffer.new result }
         ensures within { result.written ≤ length buffer.old }
     {
-        if let Some(fault) = self.counts.unanswered(buffer.len(), 0) {
-            return ignore(self.counts, fault);
-        }
-        match self.hear(line) {
+        let next = match self.counts.next_line(buffer.len(), 0) {
+            Ok(next) => next,
+            Err(fault) => return ignore(self.counts, fault),
+        };
+        let (counts, replied) = match self.hear(line) {
             Ok(opening) => {
                 self.accepted = Some(opening);
-                accept(&mut self.counts, buffer, 0, 0, 0)
+                accept(next, buffer, 0, (0, 0))
             }
-            Err(fault) => refuse(&mut self.counts, buffer, fault),
-        }
+            Err(fault) => refuse(next, buffer, fault),
+        };
+        self.counts = counts;
+        replied
     }
 }

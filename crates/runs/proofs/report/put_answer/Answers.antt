@@ -9,11 +9,11 @@ use Rattle.runs.proofs.report.put_answer.Goals as goal
 pub returns : goal.returns
 returns c =
     let l = four_bytes c.args.line _ c.to_be_bytes.ensures in
-    let w = two_bytes c.args.wakes _ c.to_be_bytes-2.ensures in
-    let f = two_bytes c.args.firings _ c.to_be_bytes-3.ensures in
-    placed_as (answer_payload c.args.line c.args.refusal c.args.wakes c.args.firings) _ c.args.buffer.now _ c.args.at _
-    (ap (λ (t : List ℕ). 0x90 ∷ t ++ (c.args.refusal ∷ []) ++ big_endian 2 c.args.wakes ++ big_endian 2 c.args.firings) l
-    ∙ ap (λ (t : List ℕ). 0x90 ∷ listed c.to_be_bytes.result 0 4 ++ (c.args.refusal ∷ []) ++ t ++ big_endian 2 c.args.firings) w
+    let w = two_bytes c.args.served.0 _ c.to_be_bytes-2.ensures in
+    let f = two_bytes c.args.served.1 _ c.to_be_bytes-3.ensures in
+    placed_as (answer_payload c.args.line c.args.refusal c.args.served.0 c.args.served.1) _ c.args.buffer.now _ c.args.at _
+    (ap (λ (t : List ℕ). 0x90 ∷ t ++ (c.args.refusal ∷ []) ++ big_endian 2 c.args.served.0 ++ big_endian 2 c.args.served.1) l
+    ∙ ap (λ (t : List ℕ). 0x90 ∷ listed c.to_be_bytes.result 0 4 ++ (c.args.refusal ∷ []) ++ t ++ big_endian 2 c.args.served.1) w
     ∙ ap (λ (t : List ℕ). 0x90 ∷ listed c.to_be_bytes.result 0 4 ++ (c.args.refusal ∷ []) ++ listed c.to_be_bytes-2.result 0 2 ++ t) f
     )
     c.put_line.ensures
