@@ -1,56 +1,45 @@
 // The wake-ups of an advance: while the alarm rings on the way, the ripe timers fire, and the alarm is set anew.
 ghost use Rattle.std.specs.Prelude.{◌≡◌, ◌+◌, ◌≤◌, length};
-ghost use Rattle.slot_heaps.specs.Pending.{listed, Standing};
+ghost use Rattle.slot_heaps.specs.Pending.{Standing};
 ghost use Rattle.key_heaps.specs.Sifts.{BothHeaped};
+ghost use Rattle.timer_queue.specs.Inners.{held_timers, Spared};
 ghost use Rattle.timer_queue.specs.Services.{CountedAll, Ready, ServedAll};
 
 use crate::aiming::{aim, rings};
-use crate::serving::{fire, least};
-use alarms::{Alarm, AlarmDevice};
+use crate::queue::Inner;
+use alarms::Alarm;
 use queue_rules::firing::Firing;
-use slot_heaps::roots::first_by_hard;
-use slot_heaps::slots::Slot;
 use times::Time;
 
-// How many timers an advance leaves pending, and how many wake-ups it made.
-#[derive(Clone, Copy)]
-pub(crate) struct Service {
-    pub(crate) left: u16,
-    pub(crate) wakes: u16,
-}
-
-// Advances the alarm to t. The timers of each wake-up are logged behind those of the one before.
-pub(crate) fn serve<T: Time, A: Alarm<T>>(
-    slots: &mut [Slot<T>],
-    pending: u16,
-    alarm: &mut A,
-    t: T,
-    log: &mut [Firing<T>],
-) -> Service
-    requires standing { Standing pending slots.old }
-    requires room { pending ≤ length log.old }
-    ensures standing { Standing result.left slots.new }
-    ensures fewer { result.left ≤ pending }
-    ensures few_wakes { result.wakes + result.left ≤ pending }
-    ensures held { length (listed result.left slots.new) + pending ≡ length (listed pending slots.old) + result.left }
-    ensures ordered { BothHeaped T.Time.before pending slots.old → BothHeaped T.Time.before result.left slots.new }
-    ensures served { Ready T.Time.before pending slots.old (A.AlarmDevice.clock alarm.old) (A.AlarmDevice.due alarm.old) t → ServedAll T.Time.before t (listed pending slots.old) (listed result.left slots.new) result.wakes log.old log.new (A.AlarmDevice.clock alarm.new) (A.AlarmDevice.due alarm.new) }
-    ensures counted { Ready T.Time.before pending slots.old (A.AlarmDevice.clock alarm.old) (A.AlarmDevice.due alarm.old) t → CountedAll T.Time.before t (listed pending slots.old) (listed result.left slots.new) }
-{
-    let mut left = pending;
-    let mut wakes = 0;
-    while rings(alarm, t) {
-        let Some((_, forcing)) = first_by_hard(slots, left) else {
-            break;
-        };
-        let (_, unlogged) = log.split_at_mut(usize::from(pending - left));
-        let rest = fire(slots, left, forcing.hard, forcing.number, unlogged);
-        if rest == left {
-            break;
+impl<'a, T: Time> Inner<'a, T> {
+    // Advances the alarm to t, and answers how many wake-ups there were. The timers of each are logged behind those of the one before.
+    pub(crate) fn serve<A: Alarm<T>>(&mut self, alarm: &mut A, t: T, log: &mut [Firing<T>]) -> u16
+        requires standing { Standing self.old.pending self.old.slots.now }
+        requires room { self.old.pending ≤ length log.old }
+        ensures spared { Spared self.old self.new }
+        ensures standing { Standing self.new.pending self.new.slots.now }
+        ensures fewer { self.new.pending ≤ self.old.pending }
+        ensures few_wakes { result + self.new.pending ≤ self.old.pending }
+        ensures held { length (held_timers self.new) + self.old.pending ≡ length (held_timers self.old) + self.new.pending }
+        ensures ordered { BothHeaped T.Time.before self.old.pending self.old.slots.now → BothHeaped T.Time.before self.new.pending self.new.slots.now }
+        ensures served { Ready T.Time.before self.old.pending self.old.slots.now (A.AlarmDevice.clock alarm.old) (A.AlarmDevice.due alarm.old) t → ServedAll T.Time.before t (held_timers self.old) (held_timers self.new) result log.old log.new (A.AlarmDevice.clock alarm.new) (A.AlarmDevice.due alarm.new) }
+        ensures counted { Ready T.Time.before self.old.pending self.old.slots.now (A.AlarmDevice.clock alarm.old) (A.AlarmDevice.due alarm.old) t → CountedAll T.Time.before t (held_timers self.old) (held_timers self.new) }
+    {
+        let pending = self.pending;
+        let mut wakes = 0;
+        while rings(alarm, t) {
+            let left = self.pending;
+            let Some((_, forcing)) = self.first_by_hard() else {
+                break;
+            };
+            let (_, unlogged) = log.split_at_mut(usize::from(pending - left));
+            self.fire(forcing.hard, forcing.number, unlogged);
+            if self.pending == left {
+                break;
+            }
+            wakes += 1;
+            aim(alarm, self.least());
         }
-        left = rest;
-        wakes += 1;
-        aim(alarm, least(slots, left));
+        wakes
     }
-    Service { left, wakes }
 }

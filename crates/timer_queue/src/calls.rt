@@ -111,7 +111,7 @@ impl<'a, T: Time> TimerQueue<'a, T> {
     {
         self.check_advance(alarm, t, log.len())?;
         let pending = self.inner.pending;
-        let wakes = self.inner.run(alarm, t, log);
+        let wakes = self.inner.serve(alarm, t, log);
         Ok((wakes, pending - self.inner.pending))
     }
 }

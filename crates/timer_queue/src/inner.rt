@@ -2,21 +2,35 @@
 ghost use Rattle.std.specs.Prelude.{◌≡◌, ◌+◌, ◌<◌, ◌≤◌, [], length, Some};
 ghost use Rattle.std.specs.List.{slice_get};
 ghost use Rattle.heap_links.specs.Columns.{timers, place_of};
-ghost use Rattle.slot_heaps.specs.Pending.{by_hard, listed, Inserted, Standing};
+ghost use Rattle.slot_heaps.specs.Firsts.{Top};
+ghost use Rattle.slot_heaps.specs.Pending.{by_hard, by_soft, listed, Inserted, Standing};
 ghost use Rattle.key_heaps.specs.Sifts.{BothHeaped};
 ghost use Rattle.timer_queue.specs.Inners.{held_timers, Spared};
-ghost use Rattle.timer_queue.specs.Services.{CountedAll, Ready, ServedAll};
 
-use crate::advancing::serve;
 use crate::queue::Inner;
-use alarms::Alarm;
-use queue_rules::firing::Firing;
 use slot_heaps::layout::lay_out;
 use slot_heaps::pending::{insert, remove};
+use slot_heaps::roots::{first_by_hard, first_by_soft};
 use slot_heaps::timer::Timer;
 use times::Time;
 
 impl<'a, T: Time> Inner<'a, T> {
+    // The first pending timer by hard time, and its slot.
+    pub(crate) fn first_by_hard(&self) -> Option<(u16, Timer<T>)>
+        requires { Standing self.now.pending self.now.slots.now }
+        ensures { Top T.Time.before (λ t. t.hard) by_hard self.now.pending self.now.slots.now result }
+    {
+        first_by_hard(self.slots, self.pending)
+    }
+
+    // The first pending timer by soft time, and its slot.
+    pub(crate) fn first_by_soft(&self) -> Option<(u16, Timer<T>)>
+        requires { Standing self.now.pending self.now.slots.now }
+        ensures { Top T.Time.before (λ t. t.soft) by_soft self.now.pending self.now.slots.now result }
+    {
+        first_by_soft(self.slots, self.pending)
+    }
+
     // Nothing is pending.
     pub(crate) fn clear(&mut self)
         requires { length self.old.slots.now ≤ 4096 }
@@ -58,23 +72,5 @@ impl<'a, T: Time> Inner<'a, T> {
     {
         self.pending = left;
         remove(self.slots, slot, left)
-    }
-
-    // The wake-ups of an advance to t; answers how many there were.
-    pub(crate) fn run<A: Alarm<T>>(&mut self, alarm: &mut A, t: T, log: &mut [Firing<T>]) -> u16
-        requires standing { Standing self.old.pending self.old.slots.now }
-        requires room { self.old.pending ≤ length log.old }
-        ensures spared { Spared self.old self.new }
-        ensures standing { Standing self.new.pending self.new.slots.now }
-        ensures fewer { self.new.pending ≤ self.old.pending }
-        ensures few_wakes { result + self.new.pending ≤ self.old.pending }
-        ensures held { length (held_timers self.new) + self.old.pending ≡ length (held_timers self.old) + self.new.pending }
-        ensures ordered { BothHeaped T.Time.before self.old.pending self.old.slots.now → BothHeaped T.Time.before self.new.pending self.new.slots.now }
-        ensures served { Ready T.Time.before self.old.pending self.old.slots.now (A.AlarmDevice.clock alarm.old) (A.AlarmDevice.due alarm.old) t → ServedAll T.Time.before t (held_timers self.old) (held_timers self.new) result log.old log.new (A.AlarmDevice.clock alarm.new) (A.AlarmDevice.due alarm.new) }
-        ensures counted { Ready T.Time.before self.old.pending self.old.slots.now (A.AlarmDevice.clock alarm.old) (A.AlarmDevice.due alarm.old) t → CountedAll T.Time.before t (held_timers self.old) (held_timers self.new) }
-    {
-        let service = serve(self.slots, self.pending, alarm, t, log);
-        self.pending = service.left;
-        service.wakes
     }
 }

@@ -6,7 +6,6 @@ ghost use Rattle.queue_rules.specs.Timers.{least_hard, numbered};
 ghost use Rattle.timer_queue.specs.Queues.{queue_timers};
 
 use crate::queue::TimerQueue;
-use crate::serving::least;
 use slot_heaps::search::find;
 use times::Time;
 
@@ -15,7 +14,7 @@ impl<'a, T: Time> TimerQueue<'a, T> {
     pub(crate) fn least(&self) -> Option<T>
         ensures { result ≡ least_hard T.Time.before (queue_timers self.now) }
     {
-        least(self.inner.slots, self.inner.pending)
+        self.inner.least()
     }
 
     // The slot in which a number is pending.

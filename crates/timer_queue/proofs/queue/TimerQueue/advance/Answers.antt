@@ -41,14 +41,14 @@ invariant_of-self g c =
     let due = g.A.AlarmDevice.due in
     let q = c.args.self.now in
     let a : g.row.A.Denot = c.args.alarm.now in
-    let a' : g.row.A.Denot = c.run-wakes.new.alarm in
-    let j : Inner g.row.T.Denot = c.run-wakes.new.self in
+    let a' : g.row.A.Denot = c.serve-wakes.new.alarm in
+    let j : Inner g.row.T.Denot = c.serve-wakes.new.self in
     let t : g.row.T.Denot = c.args.t in
     let old : List (Firing g.row.T.Denot) = c.args.log.now in
-    let new : List (Firing g.row.T.Denot) = c.run-wakes.new.log in
+    let new : List (Firing g.row.T.Denot) = c.serve-wakes.new.log in
     let u : ℕ = length q.inner.slots.now in
     let p : ℕ = q.inner.pending in
-    let n : ℕ = c.run-wakes.result in
+    let n : ℕ = c.serve-wakes.result in
     let m : ℕ = p - j.pending in
     let xs : List (Timer g.row.T.Denot) = held_timers q.inner in
     let ys : List (Timer g.row.T.Denot) = held_timers j in
@@ -61,10 +61,10 @@ invariant_of-self g c =
       due = as_due before o u xs (clock a) (due a) t (length old) free;
       clock = not_back before o u xs (clock a) (due a) t (length old) free;
     } in
-    let served : ServedAll before t xs ys n old new (clock a') (due a') = c.run-wakes.ensures.served ready in
-    typed before j (counted_still q.inner j c.run-wakes.ensures.spared q.counted) c.run-wakes.ensures.standing
-    (let held = q.held in omega (arith, c.run-wakes.ensures.held, held))
-    (c.run-wakes.ensures.ordered (q.hard_order, q.soft_order)) served.distinct served.proper
+    let served : ServedAll before t xs ys n old new (clock a') (due a') = c.serve-wakes.ensures.served ready in
+    typed before j (counted_still q.inner j c.serve-wakes.ensures.spared q.counted) c.serve-wakes.ensures.standing
+    (let held = q.held in omega (arith, c.serve-wakes.ensures.held, held))
+    (c.serve-wakes.ensures.ordered (q.hard_order, q.soft_order)) served.distinct served.proper
 
 pub returns-clause-done : goal.returns-clause-done
 returns-clause-done g c =
@@ -74,14 +74,14 @@ returns-clause-done g c =
     let due = g.A.AlarmDevice.due in
     let q = c.args.self.now in
     let a : g.row.A.Denot = c.args.alarm.now in
-    let a' : g.row.A.Denot = c.run-wakes.new.alarm in
-    let j : Inner g.row.T.Denot = c.run-wakes.new.self in
+    let a' : g.row.A.Denot = c.serve-wakes.new.alarm in
+    let j : Inner g.row.T.Denot = c.serve-wakes.new.self in
     let t : g.row.T.Denot = c.args.t in
     let old : List (Firing g.row.T.Denot) = c.args.log.now in
-    let new : List (Firing g.row.T.Denot) = c.run-wakes.new.log in
+    let new : List (Firing g.row.T.Denot) = c.serve-wakes.new.log in
     let u : ℕ = length q.inner.slots.now in
     let p : ℕ = q.inner.pending in
-    let n : ℕ = c.run-wakes.result in
+    let n : ℕ = c.serve-wakes.result in
     let m : ℕ = p - j.pending in
     let xs : List (Timer g.row.T.Denot) = held_timers q.inner in
     let ys : List (Timer g.row.T.Denot) = held_timers j in
@@ -94,15 +94,15 @@ returns-clause-done g c =
       due = as_due before o u xs (clock a) (due a) t (length old) free;
       clock = not_back before o u xs (clock a) (due a) t (length old) free;
     } in
-    let served : ServedAll before t xs ys n old new (clock a') (due a') = c.run-wakes.ensures.served ready in
-    let counted : CountedAll before t xs ys = c.run-wakes.ensures.counted ready in
+    let served : ServedAll before t xs ys n old new (clock a') (due a') = c.serve-wakes.ensures.served ready in
+    let counted : CountedAll before t xs ys = c.serve-wakes.ensures.counted ready in
     let held = q.held in
-    let fired : length xs ≡ length ys + m = omega (arith, c.run-wakes.ensures.held, c.run-wakes.ensures.few_wakes) in
+    let fired : length xs ≡ length ys + m = omega (arith, c.serve-wakes.ensures.held, c.serve-wakes.ensures.few_wakes) in
     let s : State g.row.T.Denot = view u xs (clock a) (due a) in
     let s' : State g.row.T.Denot = view (length j.slots.now) ys (clock a') (due a') in
     let out : advancing before s t (length old) ≡ gives (Ok (n, m)) s' (take m new) =
     advanced_so before o u xs (clock a) (due a) t (length old) free ys n m old new (clock a') (due a') q.distinct q.proper served counted fired
-    (length j.slots.now) c.run-wakes.ensures.spared.usable in
+    (length j.slots.now) c.serve-wakes.ensures.spared.usable in
     record { outcome = out; history = advance_carries before o s s' t (length old) (Ok (n, m)) (take m new) out }
 
 pub returns-clause-greedy : goal.returns-clause-greedy
@@ -113,14 +113,14 @@ returns-clause-greedy g c =
     let due = g.A.AlarmDevice.due in
     let q = c.args.self.now in
     let a : g.row.A.Denot = c.args.alarm.now in
-    let a' : g.row.A.Denot = c.run-wakes.new.alarm in
-    let j : Inner g.row.T.Denot = c.run-wakes.new.self in
+    let a' : g.row.A.Denot = c.serve-wakes.new.alarm in
+    let j : Inner g.row.T.Denot = c.serve-wakes.new.self in
     let t : g.row.T.Denot = c.args.t in
     let old : List (Firing g.row.T.Denot) = c.args.log.now in
-    let new : List (Firing g.row.T.Denot) = c.run-wakes.new.log in
+    let new : List (Firing g.row.T.Denot) = c.serve-wakes.new.log in
     let u : ℕ = length q.inner.slots.now in
     let p : ℕ = q.inner.pending in
-    let n : ℕ = c.run-wakes.result in
+    let n : ℕ = c.serve-wakes.result in
     let m : ℕ = p - j.pending in
     let xs : List (Timer g.row.T.Denot) = held_timers q.inner in
     let ys : List (Timer g.row.T.Denot) = held_timers j in
@@ -133,14 +133,14 @@ returns-clause-greedy g c =
       due = as_due before o u xs (clock a) (due a) t (length old) free;
       clock = not_back before o u xs (clock a) (due a) t (length old) free;
     } in
-    let served : ServedAll before t xs ys n old new (clock a') (due a') = c.run-wakes.ensures.served ready in
-    let counted : CountedAll before t xs ys = c.run-wakes.ensures.counted ready in
+    let served : ServedAll before t xs ys n old new (clock a') (due a') = c.serve-wakes.ensures.served ready in
+    let counted : CountedAll before t xs ys = c.serve-wakes.ensures.counted ready in
     let held = q.held in
-    let fired : length xs ≡ length ys + m = omega (arith, c.run-wakes.ensures.held, c.run-wakes.ensures.few_wakes) in
+    let fired : length xs ≡ length ys + m = omega (arith, c.serve-wakes.ensures.held, c.serve-wakes.ensures.few_wakes) in
     let s : State g.row.T.Denot = view u xs (clock a) (due a) in
     let s' : State g.row.T.Denot = view (length j.slots.now) ys (clock a') (due a') in
     let out : advancing before s t (length old) ≡ gives (Ok (n, m)) s' (take m new) =
     advanced_so before o u xs (clock a) (due a) t (length old) free ys n m old new (clock a') (due a') q.distinct q.proper served counted fired
-    (length j.slots.now) c.run-wakes.ensures.spared.usable in
+    (length j.slots.now) c.serve-wakes.ensures.spared.usable in
     let r = sorted_rearranged by_number xs in
     advance_greedy before o s s' t (length old) (Ok (n, m)) (take m new) (distinct_rearranged r q.distinct) (all_rearranged _ r q.proper) out
