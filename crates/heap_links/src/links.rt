@@ -29,13 +29,7 @@ fn set_at<T: Time, K: Key<T>>(slots: &mut [Slot<T>], place: u16, slot: u16)
 {
     let s = &mut slots[place as usize];
     let link = K::link(s);
-    K::set_link(
-        s,
-        Link {
-            at: slot,
-            place: link.place,
-        },
-    );
+    K::set_link(s, Link { at: slot, ..link });
 }
 
 fn set_place<T: Time, K: Key<T>>(slots: &mut [Slot<T>], slot: u16, place: u16)
@@ -46,7 +40,7 @@ fn set_place<T: Time, K: Key<T>>(slots: &mut [Slot<T>], slot: u16, place: u16)
 {
     let s = &mut slots[slot as usize];
     let link = K::link(s);
-    K::set_link(s, Link { at: link.at, place });
+    K::set_link(s, Link { place, ..link });
 }
 
 // Puts a slot at a place.

@@ -7,7 +7,7 @@ use Rattle.heap_links.specs.declared.slots.Slot.{Slot}
 use Rattle.heap_links.specs.declared.timer.Timer.{Timer}
 use Rattle.heap_links.specs.Columns.{timers, slot_at, place_of}
 use Rattle.key_heaps.specs.HeapOrder.{Ordered}
-use Rattle.heap_links.specs.Links.{Linked, Paired, Straight}
+use Rattle.heap_links.specs.Links.{Linked, Paired}
 use Rattle.slot_heaps.specs.Pending.{by_hard, by_soft, pending, Standing, Marked}
 use Rattle.key_heaps.specs.Sifts.{Heaped}
 use Rattle.key_heaps.specs.Sooner.{ahead, sooner, precedes}
@@ -28,10 +28,6 @@ module _ {A : Type 0} where
     linked_same l h =
         subst (λ n. Paired n (slot_at link ys) (place_of link ys)) (sym l)
         (subst (λ ls. Paired (length xs) (λ p. get_or (map (λ s. s.at) ls) p 0) (λ i. get_or (map (λ s. s.place) ls) i 0)) (sym e) h)
-
-    pub straight_same : (n : ℕ) → Straight link n xs → Straight link n ys
-    straight_same n h =
-        subst (λ ls. (k : ℕ) → k < n → (get_or (map (λ s. s.at) ls) k 0 ≡ k) × (get_or (map (λ s. s.place) ls) k 0 ≡ k)) (sym e) h
 
     pub pending_same : (n : ℕ) → pending link n ys ≡ pending link n xs
     pending_same n = ap (λ ls. map (λ p. ltb p n) (map (λ s. s.place) ls)) e

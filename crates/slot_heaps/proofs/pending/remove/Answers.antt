@@ -18,7 +18,6 @@ take_out-requires-2 g c =
     let long = kept_length by_soft xs ys k in
     record {
       linked = linked_same by_soft xs ys k.others long h.3;
-      small = omega (arith, long, h.0);
       within = omega (arith, long, c.requires.within);
       fits = omega (arith, long, h.1);
       there = omega (arith, place_same by_soft xs ys s k.others, pending_both by_soft (n + 1) xs s h.4 c.requires.within (omega (arith, c.requires.there)));
