@@ -38,7 +38,8 @@ impl<'a, T: Time, K: Key<T>> Heap<'a, T, K> {
 
     pub(crate) fn place_of(&self, slot: u16) -> u16
         requires { slot < length self.now.slots.now }
-        ensures { result ≡ place_of K.Key.link self.now.slots.now slot }
+        ensures value { result ≡ place_of K.Key.link self.now.slots.now slot }
+        ensures within { result < length self.now.slots.now }
     {
         links::place_of::<T, K>(self.slots, slot)
     }

@@ -15,10 +15,7 @@ impl<T: Time, K: Key<T>> Heap<'_, T, K> {
         requires { p < length self.now.slots.now }
         ensures { Rising (order T.Time.before K.Key.time self.now.slots.now) (slot_at K.Key.link self.now.slots.now) p result }
     {
-        if p == 0 {
-            return false;
-        }
-        self.precedes(p, (p - 1) / 2)
+        p > 0 && self.precedes(p, (p - 1) / 2)
     }
 
     // Moves the slot at place `from` up, until its parent does not come after it.

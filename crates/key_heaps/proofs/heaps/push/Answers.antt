@@ -12,9 +12,8 @@ use Rattle.key_heaps.proofs.heaps.push.Goals as goal
 
 pub sift_up-requires : goal.sift_up-requires
 sift_up-requires g c =
-    let e = kept_length g.K.Key.other _ _ c.exchange.ensures.kept in
-    let l = (c.requires.linked.1 c.args.slot c.requires.within).0 in
-    omega (arith, ap length c.over-heap.ensures.slots)
+    let same = ap (λ ws. place_of g.K.Key.link ws c.args.slot) c.over-heap.ensures.slots in
+    omega (arith, kept_length g.K.Key.other _ _ c.exchange.ensures.kept)
 
 pub returns-clause-marked : goal.returns-clause-marked
 returns-clause-marked g c =
@@ -26,10 +25,10 @@ returns-clause-marked g c =
     let same = c.over-heap.ensures.slots in
     let there = c.requires.linked.1 c.args.slot c.requires.within in
     let m : Marked g.K.Key.link g.K.Key.other c.args.slot true n (n + 1) xs zs =
-    marked_entered g.K.Key.link g.K.Key.other xs c.exchange.new.self.slots.now zs c.args.slot p n c.place_of-p.ensures
+    marked_entered g.K.Key.link g.K.Key.other xs c.exchange.new.self.slots.now zs c.args.slot p n c.place_of-p.ensures.value
     (omega (arith, ap length same, c.requires.within)) (omega (arith, ap length same, there.0))
     c.over-heap.result.linked x.kept c.exchange.new.self.linked x.moved
-    (omega (arith, c.place_of-p.ensures, ap (λ ws. place_of g.K.Key.link ws c.args.slot) same)) c.sift_up.ensures.moved in
+    (omega (arith, c.place_of-p.ensures.value, ap (λ ws. place_of g.K.Key.link ws c.args.slot) same)) c.sift_up.ensures.moved in
     search rules
 
 pub returns-clause-ordered : goal.returns-clause-ordered
@@ -44,7 +43,7 @@ returns-clause-ordered g c = λ h.
     let same = c.over-heap.ensures.slots in
     let was = heaped_there before time link c.args.slots.now xs n same h in
     let gap = enters (precedes before time (timers ys)) (slot_at link xs) (slot_at link ys) c.place_of-p.result n c.exchange.ensures.swapped
-    (omega (arith, c.place_of-p.ensures, ap (λ ws. place_of link ws c.args.slot) same))
+    (omega (arith, c.place_of-p.ensures.value, ap (λ ws. place_of link ws c.args.slot) same))
     (subst (λ ts. Ordered (precedes before time ts) (slot_at link xs) n) (sym c.exchange.ensures.kept.timers) was) in
     let now : Heaped before time link zs (n + 1) =
     subst (λ ts. Ordered (precedes before time ts) (slot_at link zs) (n + 1)) (sym c.sift_up.ensures.moved.kept.timers)

@@ -20,7 +20,7 @@ returns-then-p-left-clause-marked g c =
     let same = ap length c.over-heap.ensures.slots in
     let v = subst (λ m. Moved g.K.Key.link g.K.Key.other m c.exchange.new.self.slots.now zs) (x.count ∙ c.over-heap.ensures.count) c.mend.ensures.moved in
     let m : Marked g.K.Key.link g.K.Key.other c.args.slot false (n + 1) n xs zs =
-    marked_left g.K.Key.link g.K.Key.other xs c.exchange.new.self.slots.now zs c.args.slot c.place_of-p.result n c.place_of-p.ensures
+    marked_left g.K.Key.link g.K.Key.other xs c.exchange.new.self.slots.now zs c.args.slot c.place_of-p.result n c.place_of-p.ensures.value
     (omega (arith, same, c.requires.within)) (omega (arith, same, c.requires.fits))
     c.over-heap.result.linked x.kept c.exchange.new.self.linked x.moved (omega arith) v in
     search rules
@@ -51,9 +51,9 @@ returns-else-p-left-clause-marked g c =
     let n = c.args.left in
     let x = c.exchange.ensures in
     let same = c.over-heap.ensures.slots in
-    let there : c.place_of-p.result ≤ n = omega (arith, c.place_of-p.ensures, ap (λ ws. place_of g.K.Key.link ws c.args.slot) same) in
+    let there : c.place_of-p.result ≤ n = omega (arith, c.place_of-p.ensures.value, ap (λ ws. place_of g.K.Key.link ws c.args.slot) same) in
     let m : Marked g.K.Key.link g.K.Key.other c.args.slot false (n + 1) n xs zs =
-    marked_left g.K.Key.link g.K.Key.other xs zs zs c.args.slot c.place_of-p.result n c.place_of-p.ensures
+    marked_left g.K.Key.link g.K.Key.other xs zs zs c.args.slot c.place_of-p.result n c.place_of-p.ensures.value
     (omega (arith, ap length same, c.requires.within)) (omega (arith, ap length same, c.requires.fits))
     c.over-heap.result.linked x.kept c.exchange.new.self.linked x.moved there (unmoved g.K.Key.link g.K.Key.other n zs c.exchange.new.self.linked) in
     search rules
