@@ -14,7 +14,7 @@ pub(crate) fn rank(time: u32, number: u32) -> u64 {
     (u64::from(time) << 32) | u64::from(number)
 }
 
-// The ranks of the pending timers by one of their times, in rising order, then u64::MAX.
+// The ranks of the pending timers by one of their times, in rising order, then u64::MAX: a None would be sorted to the front.
 pub(crate) fn sorted_ranks<F: Fn(Entry) -> u32>(
     entries: &[Option<Entry>; NUMBERS],
     time: F,
