@@ -21,6 +21,7 @@ pub fn place_of<T: Time, K: Key<T>>(slots: &[Slot<T>], slot: u16) -> u16
     K::link(&slots[slot as usize]).place
 }
 
+// Each half of a link has a function of its own: one over both would take the change as a closure, and is no plainer.
 fn set_at<T: Time, K: Key<T>>(slots: &mut [Slot<T>], place: u16, slot: u16)
     requires { place < length slots.old }
     ensures ats { ats K.Key.link slots.new ≡ slice_set (ats K.Key.link slots.old) place slot }
@@ -29,13 +30,7 @@ fn set_at<T: Time, K: Key<T>>(slots: &mut [Slot<T>], place: u16, slot: u16)
 {
     let s = &mut slots[place as usize];
     let link = K::link(s);
-    K::set_link(
-        s,
-        Link {
-            at: slot,
-            place: link.place,
-        },
-    );
+    K::set_link(s, Link { at: slot, ..link });
 }
 
 fn set_place<T: Time, K: Key<T>>(slots: &mut [Slot<T>], slot: u16, place: u16)
@@ -46,7 +41,7 @@ fn set_place<T: Time, K: Key<T>>(slots: &mut [Slot<T>], slot: u16, place: u16)
 {
     let s = &mut slots[slot as usize];
     let link = K::link(s);
-    K::set_link(s, Link { at: link.at, place });
+    K::set_link(s, Link { place, ..link });
 }
 
 // Puts a slot at a place.

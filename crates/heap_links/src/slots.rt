@@ -6,7 +6,7 @@ use crate::timer::Timer;
 use times::Time;
 
 // A heap's links at one index: which slot stands at that place, and at which place that slot stands.
-#[derive(Clone, Copy)]
+#[derive(Clone, Copy, Default)]
 pub struct Link {
     pub at: u16,
     pub place: u16,
@@ -24,15 +24,14 @@ impl<T: Time> Slot<T> {
     pub fn vacant(filler: T) -> Self
         ensures { result ≡ a_vacant filler }
     {
-        let unlinked = Link { at: 0, place: 0 };
         Slot {
             timer: Timer {
                 number: 0,
                 soft: filler,
                 hard: filler,
             },
-            hard: unlinked,
-            soft: unlinked,
+            hard: Link::default(),
+            soft: Link::default(),
         }
     }
 }
@@ -41,5 +40,5 @@ impl<T: Time> Slot<T> {
 pub fn usable(lent: usize) -> u16
     ensures { result ≡ min lent 4096 }
 {
-    if lent < 4096 { lent as u16 } else { 4096 }
+    lent.min(4096) as u16
 }

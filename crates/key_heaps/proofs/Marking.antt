@@ -31,8 +31,15 @@ module _ {A : Type 0} (link : Slot A → Link) where
       (λ u. rest i li u ∙ sym (get_or-set_other (pending link m xs) slot i b false u ∙ pending_at m xs i li))
       (cases_eq i slot))
 
-module _ {A : Type 0} (link other : Slot A → Link) (xs ys zs : List (Slot A)) (p q : ℕ) (lp : p < length xs) (lq : q < length xs)
+-- the slot at place p is exchanged for the one at place q, and then links are moved
+module _ {A : Type 0} (link other : Slot A → Link) (xs ys zs : List (Slot A)) (slot p q : ℕ) (place : p ≡ place_of link xs slot) (within : slot < length xs) (lq : q < length xs)
     (h : Linked link xs) (k : Kept other xs ys) (linked : Linked link ys) (s : Swapped (place_of link xs) (place_of link ys) (slot_at link xs p) (slot_at link xs q)) where
+  lp : p < length xs
+  lp = omega (arith, place, (h.1 slot within).0)
+
+  is : slot_at link xs p ≡ slot
+  is = ap (slot_at link xs) place ∙ (h.1 slot within).1
+
   long : length ys ≡ length xs
   long = kept_length other xs ys k
 
@@ -48,26 +55,23 @@ module _ {A : Type 0} (link other : Slot A → Link) (xs ys zs : List (Slot A)) 
 
     marked_then : (m : ℕ) (b : Bool) → ltb (place_of link ys (slot_at link xs p)) n ≡ b →
         ((i : ℕ) → i < length xs → (i ≡ slot_at link xs p → ⊥) → ltb (place_of link ys i) n ≡ ltb (place_of link xs i) m) →
-        Marked link other (slot_at link xs p) b m n xs zs
+        Marked link other slot b m n xs zs
     marked_then m b here rest = record {
       linked = v.linked;
-      marks = marked_one link m n xs zs (slot_at link xs p) b (long_then ∙ long) (moved_test (slot_at link xs p) (h.0 p lp).0 ∙ here)
-          (λ i l u. moved_test i l ∙ rest i l u);
+      marks = subst (λ j. pending link n zs ≡ set (pending link m xs) j b) is
+          (marked_one link m n xs zs (slot_at link xs p) b (long_then ∙ long) (moved_test (slot_at link xs p) (h.0 p lp).0 ∙ here) (λ i l u. moved_test i l ∙ rest i l u));
       kept = kept_then link other xs ys zs k v.kept;
     }
 
-  pub marked_entered : q ≤ p → Moved link other (q + 1) ys zs → Marked link other (slot_at link xs p) true q (q + 1) xs zs
-  marked_entered le v =
-      let a = slot_at link xs in
-      let b = place_of link xs in
-      let b' = place_of link ys in
-      let at : b' (a p) ≡ q = comes_to (length xs) a b h b' p q lp lq s in
-      marked_then (q + 1) v q true (lt-ltb (b' (a p)) (q + 1) (omega arith)) (marks_entered (length xs) a b h b' p q lp lq s le)
+  at : place_of link ys (slot_at link xs p) ≡ q
+  at = comes_to (length xs) (slot_at link xs) (place_of link xs) h (place_of link ys) p q lp lq s
 
-  pub marked_left : p ≤ q → Moved link other q ys zs → Marked link other (slot_at link xs p) false (q + 1) q xs zs
+  pub marked_entered : q ≤ p → Moved link other (q + 1) ys zs → Marked link other slot true q (q + 1) xs zs
+  marked_entered le v =
+      marked_then (q + 1) v q true (lt-ltb (place_of link ys (slot_at link xs p)) (q + 1) (omega (arith, at)))
+      (marks_entered (length xs) (slot_at link xs) (place_of link xs) h (place_of link ys) p q lp lq s le)
+
+  pub marked_left : p ≤ q → Moved link other q ys zs → Marked link other slot false (q + 1) q xs zs
   marked_left le v =
-      let a = slot_at link xs in
-      let b = place_of link xs in
-      let b' = place_of link ys in
-      let at : b' (a p) ≡ q = comes_to (length xs) a b h b' p q lp lq s in
-      marked_then q v (q + 1) false (le-ltb (b' (a p)) q (omega arith)) (marks_left (length xs) a b h b' p q lp lq s le)
+      marked_then q v (q + 1) false (le-ltb (place_of link ys (slot_at link xs p)) q (omega (arith, at)))
+      (marks_left (length xs) (slot_at link xs) (place_of link xs) h (place_of link ys) p q lp lq s le)

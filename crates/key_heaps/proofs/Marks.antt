@@ -1,12 +1,10 @@
 -- Which slots are pending after links have moved; a p is the slot at place p, b i the place of slot i.
 use Rattle.std.proofs.Common.{◌≡◌, ℕ, ◌+◌, ◌<◌, ◌≤◌, ltb, sym, ap, ◌∙◌, ⊎_elim, arith}
-use Rattle.std.proofs.lemmas.Bool.{cases_eq, cases_lt, lt-ltb, le-ltb}
+use Rattle.std.proofs.lemmas.Bool.{cases_eq, cases_lt, lt-ltb, ltb-true, ltb_from_iff}
 use Rattle.heap_links.specs.Links.{Paired, Swapped}
 
 same_test : (x m y n : ℕ) → (x < m → y < n) → (y < n → x < m) → ltb x m ≡ ltb y n
-same_test x m y n to from =
-    ⊎_elim (λ l. lt-ltb x m l ∙ sym (lt-ltb y n (to l)))
-    (λ l. le-ltb x m l ∙ sym (le-ltb y n (⊎_elim (λ k. absurd (let f = from k in omega arith)) (λ k. k) (cases_lt y n)))) (cases_lt x m)
+same_test x m y n to from = ltb_from_iff (λ t. to (ltb-true x m t), λ l. lt-ltb x m (from l))
 
 module _ (size : ℕ) (a b : ℕ → ℕ) (h : Paired size a b) where
   -- links that moved below n only

@@ -1,13 +1,14 @@
 -- What a sift keeps from turn to turn.
-use Rattle.std.proofs.Common.{◌≡◌, ℕ, ◌+◌, ◌-◌, ◌*◌, ◌/◌, ◌<◌, ◌≤◌, Bool, true, false, cond, List, Some, refl, ap, ◌∙◌, ⊎_elim, arith}
-use Rattle.std.proofs.lemmas.Bool.{cases_eq, cases_Bool, cond_both}
+use Rattle.std.proofs.Common.{◌≡◌, ℕ, ◌-◌, ◌/◌, ◌<◌, ◌≤◌, Bool, true, false, List, Some, refl, sym, ◌∙◌, subst, ⊎_elim, arith}
+use Rattle.std.proofs.lemmas.Bool.{cases_Bool}
 use Rattle.heap_links.specs.declared.slots.Link.{Link}
 use Rattle.heap_links.specs.declared.slots.Slot.{Slot}
+use Rattle.heap_links.specs.declared.timer.Timer.{Timer}
 use Rattle.heap_links.specs.Columns.{slot_at, Kept}
 use Rattle.key_heaps.specs.HeapOrder.{Child, Gap, Under, Over, Rising, FirstChild}
 use Rattle.heap_links.specs.Links.{Linked, Swapped, Moved}
-use Rattle.key_heaps.specs.Sifts.{Rises, Sinks}
-use Rattle.key_heaps.proofs.Gaps.{by, closes, rises, sinks}
+use Rattle.key_heaps.specs.Sifts.{Heaped, Sinks}
+use Rattle.key_heaps.proofs.Gaps.{closes, rises, sinks}
 use Rattle.key_heaps.proofs.Orders.{Ranks}
 
 module _ {A : Type 0} (link other : Slot A → Link) where
@@ -22,9 +23,6 @@ module _ {A : Type 0} (link other : Slot A → Link) where
     kept = kept_then xs ys zs m.kept k;
   }
 
-  pub moved_wider : (m n : ℕ) (xs ys : List (Slot A)) → m ≤ n → Moved link other m xs ys → Moved link other n xs ys
-  moved_wider m n xs ys le h = record { linked = h.linked; rest = λ k l. h.rest k (omega arith); kept = h.kept }
-
   pub unmoved : (n : ℕ) (xs : List (Slot A)) → Linked link xs → Moved link other n xs xs
   unmoved n xs h = record { linked = h; rest = λ k l. refl; kept = record { timers = refl; others = refl } }
 
@@ -38,12 +36,6 @@ module _ (lt : ℕ → ℕ → Bool) where
 
   pub parent : (j : ℕ) → 0 < j → Child ((j - 1) / 2) j
   parent j l = record { low = omega arith; high = omega arith }
-
-  pub up_rests : (a b : ℕ → ℕ) (j₀ j : ℕ) → Over lt b j → GoingUp a j₀ b j → Rises lt a j₀ b
-  up_rests a b j₀ j o was = λ n l g u. let h = was n l g u in closes lt b j n h.0 h.1 o
-
-  pub down_ends : (a b : ℕ → ℕ) (j₀ j n : ℕ) → n ≤ j * 2 + 1 → GoingDown n a j₀ b j → Sinks lt a j₀ n b
-  down_ends a b j₀ j n le was = λ g o. let h = was g o in closes lt b j n h.0 (λ k c l. absurd (omega arith)) h.1
 
   module _ (r : Ranks lt) where
     pub itself : (i : ℕ) → lt i i ≡ false
@@ -62,28 +54,7 @@ module _ (lt : ℕ → ℕ → Bool) where
     pub down_rests : (a b : ℕ → ℕ) (j₀ j k n : ℕ) → FirstChild lt b j n (Some k) → lt (b k) (b j) ≡ false → GoingDown n a j₀ b j → Sinks lt a j₀ n b
     down_rests a b j₀ j k n f t was = λ g o. let h = was g o in closes lt b j n h.0 (λ i ch l. r.chain _ _ _ (f.2 i ch l) t) h.1
 
-    pub only_child : (a : ℕ → ℕ) (j n : ℕ) → 2 * j + 1 < n → n ≤ (2 * j + 1) + 1 → FirstChild lt a j n (Some (2 * j + 1))
-    only_child a j n l m = (
-      record { low = omega arith; high = omega arith },
-      l,
-      λ k ch i. let e : k ≡ 2 * j + 1 = omega arith in by lt (ap a e) refl (itself (a (2 * j + 1))),
-    )
-
-    left_child : (a : ℕ → ℕ) (j n : ℕ) → 2 * j + 1 < n → lt (a ((2 * j + 1) + 1)) (a (2 * j + 1)) ≡ false → FirstChild lt a j n (Some (2 * j + 1))
-    left_child a j n l f = (
-      record { low = omega arith; high = omega arith },
-      l,
-      λ k ch i. ⊎_elim (λ e. by lt (ap a e) refl (itself (a (2 * j + 1)))) (λ u. let e : k ≡ (2 * j + 1) + 1 = omega arith in by lt (ap a e) refl f) (cases_eq k (2 * j + 1)),
-    )
-
-    right_child : (a : ℕ → ℕ) (j n : ℕ) → (2 * j + 1) + 1 < n → lt (a ((2 * j + 1) + 1)) (a (2 * j + 1)) ≡ true → FirstChild lt a j n (Some ((2 * j + 1) + 1))
-    right_child a j n l t = (
-      record { low = omega arith; high = omega arith },
-      l,
-      λ k ch i. ⊎_elim (λ e. by lt (ap a e) refl (r.one_way _ _ t)) (λ u. let e : k ≡ (2 * j + 1) + 1 = omega arith in by lt (ap a e) refl (itself (a ((2 * j + 1) + 1)))) (cases_eq k (2 * j + 1)),
-    )
-
-    pub earlier_child : (a : ℕ → ℕ) (j n : ℕ) → (2 * j + 1) + 1 < n → FirstChild lt a j n (Some (cond (lt (a ((2 * j + 1) + 1)) (a (2 * j + 1))) ((2 * j + 1) + 1) (2 * j + 1)))
-    earlier_child a j n l =
-        cond_both (lt (a ((2 * j + 1) + 1)) (a (2 * j + 1))) ((2 * j + 1) + 1) (2 * j + 1) (λ c. FirstChild lt a j n (Some c))
-        (right_child a j n l) (left_child a j n (omega arith))
+-- slots that are the same are the same heap
+pub heaped_there : {A : Type 0} (before : A → A → Bool) (time : Timer A → A) (link : Slot A → Link) (xs ys : List (Slot A)) (n : ℕ) →
+    ys ≡ xs → Heaped before time link xs n → Heaped before time link ys n
+heaped_there before time link xs ys n e h = subst (λ zs. Heaped before time link zs n) (sym e) h

@@ -2,5 +2,6 @@
 #![tactic(auto)]
 
 mod compare;
+mod heap;
 pub mod heaps;
 mod sifts;

@@ -1,93 +1,83 @@
 // Moving a slot of a heap up or down, to where it belongs.
-ghost use Rattle.std.specs.Prelude.{◌+◌, ◌<◌, ◌≤◌, length};
+ghost use Rattle.std.specs.Prelude.{◌≡◌, ◌+◌, ◌<◌, length};
 ghost use Rattle.heap_links.specs.Columns.{slot_at};
+ghost use Rattle.heap_links.specs.Links.{Moved};
 ghost use Rattle.key_heaps.specs.HeapOrder.{FirstChild, Rising};
-ghost use Rattle.heap_links.specs.Links.{Linked, Moved};
 ghost use Rattle.key_heaps.specs.Sifts.{order, Rises, Sinks, Mends};
 
-use crate::compare::{earlier, precedes};
+use crate::heap::Heap;
 use heap_links::keys::Key;
-use heap_links::links::exchange;
-use heap_links::slots::Slot;
 use times::Time;
 
-// Whether the slot at place p comes before the one at its parent.
-fn rises<T: Time, K: Key<T>>(slots: &[Slot<T>], p: u16) -> bool
-    requires linked { Linked K.Key.link slots.now }
-    requires within { p < length slots.now }
-    ensures { Rising (order T.Time.before K.Key.time slots.now) (slot_at K.Key.link slots.now) p result }
-{
-    if p == 0 {
-        return false;
+impl<T: Time, K: Key<T>> Heap<'_, T, K> {
+    // Whether the slot at place p comes before the one at its parent.
+    fn rises(&self, p: u16) -> bool
+        requires { p < length self.now.slots.now }
+        ensures { Rising (order T.Time.before K.Key.time self.now.slots.now) (slot_at K.Key.link self.now.slots.now) p result }
+    {
+        p > 0 && self.precedes(p, (p - 1) / 2)
     }
-    precedes::<T, K>(slots, p, (p - 1) / 2)
-}
 
-// Moves the slot at place `from` up, until its parent does not come after it.
-pub(crate) fn sift_up<T: Time, K: Key<T>>(slots: &mut [Slot<T>], from: u16)
-    requires linked { Linked K.Key.link slots.old }
-    requires within { from < length slots.old }
-    ensures moved { Moved K.Key.link K.Key.other (from + 1) slots.old slots.new }
-    ensures ordered { Rises (order T.Time.before K.Key.time slots.old) (slot_at K.Key.link slots.old) from (slot_at K.Key.link slots.new) }
-{
-    let mut p = from;
-    while rises::<T, K>(slots, p) {
-        let parent = (p - 1) / 2;
-        exchange::<T, K>(slots, parent, p);
-        p = parent;
-    }
-}
-
-// The child of place p that comes first among those below `count`.
-fn first_child<T: Time, K: Key<T>>(slots: &[Slot<T>], p: u16, count: u16) -> Option<u16>
-    requires linked { Linked K.Key.link slots.now }
-    requires small { length slots.now ≤ 4096 }
-    requires within { p < count }
-    requires fits { count ≤ length slots.now }
-    ensures { FirstChild (order T.Time.before K.Key.time slots.now) (slot_at K.Key.link slots.now) p count result }
-{
-    let left = 2 * p + 1;
-    if left >= count {
-        return None;
-    }
-    let right = left + 1;
-    if right >= count {
-        return Some(left);
-    }
-    Some(earlier::<T, K>(slots, left, right))
-}
-
-// Moves the slot at place `from` down among the places below `count`, until no child comes before it.
-pub(crate) fn sift_down<T: Time, K: Key<T>>(slots: &mut [Slot<T>], from: u16, count: u16)
-    requires linked { Linked K.Key.link slots.old }
-    requires small { length slots.old ≤ 4096 }
-    requires within { from < count }
-    requires fits { count ≤ length slots.old }
-    ensures moved { Moved K.Key.link K.Key.other count slots.old slots.new }
-    ensures ordered { Sinks (order T.Time.before K.Key.time slots.old) (slot_at K.Key.link slots.old) from count (slot_at K.Key.link slots.new) }
-{
-    let mut p = from;
-    while let Some(child) = first_child::<T, K>(slots, p, count) {
-        if !precedes::<T, K>(slots, child, p) {
-            return;
+    // Moves the slot at place `from` up, until its parent does not come after it.
+    pub(crate) fn sift_up(&mut self, from: u16)
+        requires { from < length self.old.slots.now }
+        ensures same_reference { self.new.slots.ghost_name ≡ self.old.slots.ghost_name }
+        ensures moved { Moved K.Key.link K.Key.other (from + 1) self.old.slots.now self.new.slots.now }
+        ensures ordered { Rises (order T.Time.before K.Key.time self.old.slots.now) (slot_at K.Key.link self.old.slots.now) from (slot_at K.Key.link self.new.slots.now) }
+    {
+        let mut p = from;
+        while self.rises(p) {
+            let parent = (p - 1) / 2;
+            self.exchange(parent, p);
+            p = parent;
         }
-        exchange::<T, K>(slots, p, child);
-        p = child;
     }
-}
 
-// Moves the slot at place p up or down among the places below `count`, to where it belongs.
-pub(crate) fn mend<T: Time, K: Key<T>>(slots: &mut [Slot<T>], p: u16, count: u16)
-    requires linked { Linked K.Key.link slots.old }
-    requires small { length slots.old ≤ 4096 }
-    requires within { p < count }
-    requires fits { count ≤ length slots.old }
-    ensures moved { Moved K.Key.link K.Key.other count slots.old slots.new }
-    ensures ordered { Mends (order T.Time.before K.Key.time slots.old) (slot_at K.Key.link slots.old) p count (slot_at K.Key.link slots.new) }
-{
-    if rises::<T, K>(slots, p) {
-        sift_up::<T, K>(slots, p);
-    } else {
-        sift_down::<T, K>(slots, p, count);
+    // The child of place p in the heap that comes first.
+    fn first_child(&self, p: u16) -> Option<u16>
+        requires { p < self.now.count }
+        ensures { FirstChild (order T.Time.before K.Key.time self.now.slots.now) (slot_at K.Key.link self.now.slots.now) p self.now.count result }
+    {
+        let count = u32::from(self.count);
+        let left = 2 * u32::from(p) + 1;
+        if left >= count {
+            return None;
+        }
+        let right = left + 1;
+        if right >= count {
+            return Some(left as u16);
+        }
+        Some(self.earlier(left as u16, right as u16))
+    }
+
+    // Moves the slot at place `from` of the heap down, until no child comes before it.
+    pub(crate) fn sift_down(&mut self, from: u16)
+        requires { from < self.old.count }
+        ensures same_reference { self.new.slots.ghost_name ≡ self.old.slots.ghost_name }
+        ensures moved { Moved K.Key.link K.Key.other self.old.count self.old.slots.now self.new.slots.now }
+        ensures ordered { Sinks (order T.Time.before K.Key.time self.old.slots.now) (slot_at K.Key.link self.old.slots.now) from self.old.count (slot_at K.Key.link self.new.slots.now) }
+    {
+        let mut p = from;
+        while let Some(child) = self.first_child(p) {
+            if !self.precedes(child, p) {
+                return;
+            }
+            self.exchange(p, child);
+            p = child;
+        }
+    }
+
+    // Moves the slot at place p of the heap up or down, to where it belongs.
+    pub(crate) fn mend(&mut self, p: u16)
+        requires { p < self.old.count }
+        ensures same_reference { self.new.slots.ghost_name ≡ self.old.slots.ghost_name }
+        ensures moved { Moved K.Key.link K.Key.other self.old.count self.old.slots.now self.new.slots.now }
+        ensures ordered { Mends (order T.Time.before K.Key.time self.old.slots.now) (slot_at K.Key.link self.old.slots.now) p self.old.count (slot_at K.Key.link self.new.slots.now) }
+    {
+        if self.rises(p) {
+            self.sift_up(p);
+        } else {
+            self.sift_down(p);
+        }
     }
 }

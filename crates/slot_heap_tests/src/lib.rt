@@ -2,8 +2,8 @@
 
 // A fixed sequence of inserts and removes on the two heaps, compared with sorting.
 #[cfg(test)]
-mod play;
-#[cfg(test)]
 mod reference;
 #[cfg(test)]
 mod tests;
+#[cfg(test)]
+mod trial;

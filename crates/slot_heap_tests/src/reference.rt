@@ -1,36 +1,34 @@
 // The timers of a sequence, by number, as the heaps are to hold them.
 
+pub(crate) const NUMBERS: usize = 400;
+
+// The times of a timer that is pending.
 #[derive(Clone, Copy)]
-pub struct Entry {
-    pub pending: bool,
-    pub soft: u32,
-    pub hard: u32,
+pub(crate) struct Entry {
+    pub(crate) soft: u32,
+    pub(crate) hard: u32,
 }
 
-pub const GONE: Entry = Entry {
-    pending: false,
-    soft: 0,
-    hard: 0,
-};
-
 // A timer's rank in a heap, as one number: by time, then by number.
-pub(crate) fn rank(e: Entry, number: u32, by_hard: bool) -> u64 {
-    let time = if by_hard { e.hard } else { e.soft };
+pub(crate) fn rank(time: u32, number: u32) -> u64 {
     (u64::from(time) << 32) | u64::from(number)
 }
 
-// The ranks of the pending timers in rising order, then u64::MAX.
-pub(crate) fn sort_ranks(ranks: &mut [u64], entries: &[Entry], by_hard: bool) {
-    let mut number: u32 = 0;
-    for (r, e) in ranks.iter_mut().zip(entries) {
-        *r = if e.pending {
-            rank(*e, number, by_hard)
-        } else {
-            u64::MAX
-        };
-        number = number.saturating_add(1);
+// The ranks of the pending timers by one of their times, in rising order, then u64::MAX: a None would be sorted to the front.
+pub(crate) fn sorted_ranks<F: Fn(Entry) -> u32>(
+    entries: &[Option<Entry>; NUMBERS],
+    time: F,
+) -> [u64; NUMBERS]
+    requires { F.IsAlwaysCallable time }
+{
+    let mut ranks = [u64::MAX; NUMBERS];
+    for (number, entry) in entries.iter().enumerate() {
+        if let Some(entry) = *entry {
+            ranks[number] = rank(time(entry), number as u32);
+        }
     }
     ranks.sort_unstable();
+    ranks
 }
 
 // The next number of a fixed sequence.

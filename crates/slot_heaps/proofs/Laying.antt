@@ -1,5 +1,5 @@
 -- Slots laid out straight: both heaps are linked, and nothing is pending.
-use Rattle.std.proofs.Common.{◌≡◌, ℕ, ◌+◌, ◌<◌, ◌≤◌, Bool, false, ltb, List, [], ◌∷◌, length, get_or, set, filter, sym, refl, ap, ◌∙◌, arith}
+use Rattle.std.proofs.Common.{◌≡◌, ℕ, ◌+◌, ◌<◌, ◌≤◌, false, ltb, List, [], ◌∷◌, length, get_or, set, filter, sym, refl, ap, ◌∙◌, arith}
 use Rattle.std.proofs.lemmas.List.Edits.{fill_by_more}
 use Rattle.std.proofs.lemmas.List.{ext_get_or}
 use Rattle.std.proofs.lemmas.Bool.{le-ltb, cond-false}
@@ -8,15 +8,16 @@ use Rattle.heap_links.specs.declared.slots.Slot.{Slot}
 use Rattle.heap_links.specs.Columns.{timers, ats, places, slot_at, place_of}
 use Rattle.heap_links.specs.Links.{Linked, Straight}
 use Rattle.slot_heaps.specs.Pending.{by_hard, by_soft, pending, listed, Standing}
-use Rattle.key_heaps.specs.Sifts.{BothHeaped}
 use Rattle.heap_links.proofs.Lengths.{length_ats, length_places}
+use Rattle.heap_links.proofs.Reading.{half_set}
 use Rattle.key_heaps.proofs.Marking.{length_pending, pending_at}
 
 module _ {A : Type 0} (link : Slot A → Link) where
-  pub straight_more : (xs ys : List (Slot A)) (i : ℕ) → i < length xs → ats link ys ≡ set (ats link xs) i i → places link ys ≡ set (places link xs) i i → Straight link i xs → Straight link (i + 1) ys
-  straight_more xs ys i l ea ep h = λ k m. (
-    ap (λ ns. get_or ns k 0) ea ∙ fill_by_more (λ j. j) (ats link xs) i 0 (omega (arith, length_ats link xs)) (λ j n. (h j n).0) k m,
-    ap (λ ns. get_or ns k 0) ep ∙ fill_by_more (λ j. j) (places link xs) i 0 (omega (arith, length_places link xs)) (λ j n. (h j n).1) k m,
+  -- slot i is written over, and stands at place i
+  pub straight_more : (xs : List (Slot A)) (i : ℕ) (s : Slot A) → i < length xs → (link s).at ≡ i → (link s).place ≡ i → Straight link i xs → Straight link (i + 1) (set xs i s)
+  straight_more xs i s l ea ep h = λ k m. (
+    ap (λ ns. get_or ns k 0) (half_set link xs i s l (λ l. l.at) s i ea) ∙ fill_by_more (λ j. j) (ats link xs) i 0 (omega (arith, length_ats link xs)) (λ j n. (h j n).0) k m,
+    ap (λ ns. get_or ns k 0) (half_set link xs i s l (λ l. l.place) s i ep) ∙ fill_by_more (λ j. j) (places link xs) i 0 (omega (arith, length_places link xs)) (λ j n. (h j n).1) k m,
   )
 
   pub straight_linked : (xs : List (Slot A)) → Straight link (length xs) xs → Linked link xs
@@ -44,6 +45,3 @@ module _ {A : Type 0} where
   none_listed (s ∷ xs) =
       let rest = filter (λ s. ltb s.hard.place 0) xs in
       ap timers (cond-false (ltb s.hard.place 0) (s ∷ rest) rest (le-ltb s.hard.place 0 (omega arith))) ∙ none_listed xs
-
-  pub none_heaped : (before : A → A → Bool) (xs : List (Slot A)) → BothHeaped before 0 xs
-  none_heaped before xs = (λ p k c l. absurd (omega arith), λ p k c l. absurd (omega arith))

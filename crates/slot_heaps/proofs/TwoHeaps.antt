@@ -1,5 +1,5 @@
 -- Both heaps over the same slots: what changes in one leaves the other, and a slot enters or leaves both.
-use Rattle.std.proofs.Common.{◌≡◌, ℕ, zero, suc, ◌<◌, ◌≤◌, Bool, false, ltb, List, [], ◌∷◌, map, length, get_or, set, sym, refl, ap, ◌∙◌, subst, arith}
+use Rattle.std.proofs.Common.{◌≡◌, ℕ, zero, suc, ◌<◌, ◌≤◌, Bool, false, ltb, List, [], ◌∷◌, map, length, get_or, set, Some, sym, refl, ap, ◌∙◌, subst, arith}
 use Rattle.std.specs.List.{slice_get}
 use Rattle.std.proofs.lemmas.Bool.{lt-ltb, le-ltb, ltb-true, ltb-false}
 use Rattle.heap_links.specs.declared.slots.Link.{Link}
@@ -7,11 +7,12 @@ use Rattle.heap_links.specs.declared.slots.Slot.{Slot}
 use Rattle.heap_links.specs.declared.timer.Timer.{Timer}
 use Rattle.heap_links.specs.Columns.{timers, slot_at, place_of}
 use Rattle.key_heaps.specs.HeapOrder.{Ordered}
-use Rattle.heap_links.specs.Links.{Linked, Paired, Straight}
+use Rattle.heap_links.specs.Links.{Linked, Paired}
 use Rattle.slot_heaps.specs.Pending.{by_hard, by_soft, pending, Standing, Marked}
 use Rattle.key_heaps.specs.Sifts.{Heaped}
 use Rattle.key_heaps.specs.Sooner.{ahead, sooner, precedes}
 use Rattle.heap_links.proofs.Lengths.{kept_length}
+use Rattle.heap_links.proofs.Reading.{nth_column}
 use Rattle.key_heaps.proofs.Marking.{pending_at}
 
 nth_other : {X : Type 0} (xs : List X) (i : ℕ) (x : X) (k : ℕ) → (k ≡ i → ⊥) → slice_get (set xs i x) k ≡ slice_get xs k
@@ -28,10 +29,6 @@ module _ {A : Type 0} where
     linked_same l h =
         subst (λ n. Paired n (slot_at link ys) (place_of link ys)) (sym l)
         (subst (λ ls. Paired (length xs) (λ p. get_or (map (λ s. s.at) ls) p 0) (λ i. get_or (map (λ s. s.place) ls) i 0)) (sym e) h)
-
-    pub straight_same : (n : ℕ) → Straight link n xs → Straight link n ys
-    straight_same n h =
-        subst (λ ls. (k : ℕ) → k < n → (get_or (map (λ s. s.at) ls) k 0 ≡ k) × (get_or (map (λ s. s.place) ls) k 0 ≡ k)) (sym e) h
 
     pub pending_same : (n : ℕ) → pending link n ys ≡ pending link n xs
     pending_same n = ap (λ ls. map (λ p. ltb p n) (map (λ s. s.place) ls)) e
@@ -76,8 +73,11 @@ module _ {A : Type 0} where
     pub marks_then : pending by_hard n zs ≡ set (pending by_hard m xs) s b
     marks_then = pending_same by_hard ys zs soft.kept.others n ∙ hard.marks
 
-    pub length_then : length zs ≡ length xs
+    length_then : length zs ≡ length xs
     length_then = kept_length by_hard ys zs soft.kept ∙ kept_length by_soft xs ys hard.kept
+
+    pub timer_then : (d : Slot A) → s < length xs → slice_get (timers xs) s ≡ Some (get_or zs s d).timer
+    timer_then d l = ap (λ ts. slice_get ts s) (sym timers_then) ∙ nth_column (λ x. x.timer) zs s d (omega (arith, length_then, l))
 
     pub standing_then : n ≤ length xs → Standing m xs → Standing n zs
     standing_then le h = (

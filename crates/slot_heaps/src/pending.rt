@@ -12,14 +12,6 @@ use heap_links::timer::Timer;
 use key_heaps::heaps::{push, take_out};
 use times::Time;
 
-// The slot that is free first by hard time.
-fn free_slot<T: Time>(slots: &[Slot<T>], pending: u16) -> u16
-    requires { pending < length slots.now }
-    ensures { result ≡ slot_at by_hard slots.now pending }
-{
-    slot_at::<T, ByHard>(slots, pending)
-}
-
 fn fill<T: Time>(slots: &mut [Slot<T>], slot: u16, timer: Timer<T>)
     requires { slot < length slots.old }
     ensures { Filled slot timer slots.old slots.new }
@@ -37,7 +29,7 @@ pub fn insert<T: Time>(slots: &mut [Slot<T>], pending: u16, timer: Timer<T>)
     ensures listed { Inserted timer (listed pending slots.old) (listed (pending + 1) slots.new) }
     ensures ordered { BothHeaped T.Time.before pending slots.old → BothHeaped T.Time.before (pending + 1) slots.new }
 {
-    let slot = free_slot(slots, pending);
+    let slot = slot_at::<T, ByHard>(slots, pending);
     fill(slots, slot, timer);
     push::<T, ByHard>(slots, slot, pending);
     push::<T, BySoft>(slots, slot, pending);

@@ -10,6 +10,7 @@ use heap_links::slots::Slot;
 use heap_links::timer::Timer;
 use times::Time;
 
+// Of any key, and so not public: it asks that the key's heap is linked and holds the pending slots, which `Standing` says of the two keys.
 fn root<T: Time, K: Key<T>>(slots: &[Slot<T>], pending: u16) -> Option<(u16, Timer<T>)>
     requires linked { Linked K.Key.link slots.now }
     requires fits { pending ≤ length slots.now }

@@ -25,9 +25,3 @@ returns g c =
       moved = r.2;
       kept = record { timers = cc; others = cc };
     }
-
-pub put-requires : goal.put-requires
-put-requires g c = record { place = c.requires.first; slot = omega (arith, (c.requires.linked.0 c.args.q c.requires.second).0) }
-
-pub put-requires-2 : goal.put-requires-2
-put-requires-2 g c = record { place = omega (arith, c.requires.second); slot = omega (arith, (c.requires.linked.0 c.args.p c.requires.first).0) }

@@ -1,27 +1,25 @@
-use Rattle.std.proofs.Common.{length, sym, ◌∙◌, subst, arith}
-use Rattle.heap_links.specs.Links.{Straight}
+use Rattle.std.proofs.Common.{◌<◌, length, refl, ◌∙◌, arith}
+use Rattle.heap_links.proofs.Reading.{column_kept}
 use Rattle.slot_heaps.specs.Pending.{by_hard, by_soft}
-use Rattle.slot_heaps.proofs.Laying.{straight_standing, none_listed, none_heaped}
-use Rattle.heap_links.proofs.Lengths.{kept_length}
-use Rattle.slot_heaps.proofs.TwoHeaps.{straight_same}
+use Rattle.slot_heaps.proofs.Laying.{straight_more, straight_standing, none_listed}
 use Rattle.slot_heaps.proofs.layout.lay_out.Goals as goal
 
-pub returns : goal.returns
-returns g c =
-    let xs = c.args.slots.now in
-    let ys = c.lay_out_heap.new.slots in
-    let zs = c.lay_out_heap-2.new.slots in
-    let first = c.lay_out_heap.ensures in
-    let second = c.lay_out_heap-2.ensures in
-    let same = kept_length by_soft xs ys first.kept in
-    let long = kept_length by_hard ys zs second.kept ∙ same in
-    let hard = straight_same by_hard ys zs second.kept.others (length xs) first.straight in
-    let soft = subst (λ n. Straight by_soft n zs) same second.straight in
+pub loop-i-preserved : goal.loop-i-preserved
+loop-i-preserved g c =
+    let xs = c.loop-i.slots in
+    let i = c.loop-i.i in
+    let was = c.loop-i.invariant in
+    let within : i < length xs = omega arith in
     record {
-      hard = hard;
-      soft = soft;
-      timers = second.kept.timers ∙ first.kept.timers;
-      standing = straight_standing zs (omega (arith, long, c.requires)) (subst (λ n. Straight by_hard n zs) (sym long) hard) (subst (λ n. Straight by_soft n zs) (sym long) soft);
-      listed = none_listed zs;
-      ordered = none_heaped g.T.Time.before zs;
+      hard = straight_more by_hard xs i _ within refl refl was.hard;
+      soft = straight_more by_soft xs i _ within refl refl was.soft;
+      timers = column_kept (λ s. s.timer) xs i c.index-slots-i.result within _ refl ∙ was.timers;
     }
+
+pub returns-clause-standing : goal.returns-clause-standing
+returns-clause-standing g c =
+    let was = c.loop-i.invariant in
+    straight_standing c.loop-i.slots (omega arith) (λ k l. was.hard k (omega (arith, c.loop-i-test.false))) (λ k l. was.soft k (omega (arith, c.loop-i-test.false)))
+
+pub returns-clause-listed : goal.returns-clause-listed
+returns-clause-listed g c = none_listed c.loop-i.slots

@@ -23,6 +23,3 @@ returns g c =
     } in
     let ranks = precedes_ranks g.T.Time.before g.K.Key.time g.met.T.Time.ordered (timers xs) in
     (held, c.slot_at-slot.ensures, top_is_first g.T.Time.before g.K.Key.time link n xs i _ ranks c.requires.linked c.requires.same held c.slot_at-slot.ensures)
-
-pub bounds-slots-slot : goal.bounds-slots-slot
-bounds-slots-slot g c = omega (arith, (c.requires.linked.0 0 (omega arith)).0)
