@@ -62,9 +62,6 @@ cut_feed (b ∷ q) more h =
     ap (map keeping) (lines_front b q (10 ∷ more) h)
     ∙ ap (λ (l : List ℕ). keeping l ∷ cut_lines more) (append-nil (b ∷ q))
 
-pub split_none : Split [] [] []
-split_none = record { unended = refl; whole = λ more. refl }
-
 split_on : (past : List ℕ) (done : List (List ℕ)) (rest piece : List ℕ) → feeds piece ≡ false → Split past done rest →
     Split (past ++ piece) (done ++ []) (keeping (rest ++ piece))
 split_on past done rest piece h s =
@@ -147,14 +144,6 @@ split_last past done rest n s =
     ∙ s.whole []
     ∙ ap (λ (t : List ℕ). done ++ cut_lines t) (append-nil rest)
     ∙ ap (λ (t : List (List ℕ)). done ++ t) (cut_rest rest s.unended n)
-
-pub ended_none : (rest : List ℕ) → length rest ≡ 0 → [] ≡ ended rest
-ended_none [] h = refl
-ended_none (b ∷ q) h = absurd (omega arith)
-
-pub ended_one : (rest : List ℕ) → (length rest ≡ 0 → ⊥) → rest ∷ [] ≡ ended rest
-ended_one [] h = absurd (h refl)
-ended_one (b ∷ q) h = refl
 
 -- a line before its feed, with as much of it as is kept
 pub front_kept : (piece : List ℕ) (n m : ℕ) → n ≡ length (before_feed piece) → m ≡ min n 129 → take m piece ≡ keeping (before_feed piece)
