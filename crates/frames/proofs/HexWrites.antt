@@ -7,7 +7,7 @@ use Rattle.frames.specs.Reading.{with_check}
 use Rattle.frames.specs.Writing.{hexed}
 use Rattle.frames.proofs.ReadBack.{length_hex}
 
-hex_push : (bs : List ℕ) (b : ℕ) → hex (bs ++ b ∷ []) ≡ hex bs ++ character (b / 16) ∷ character (b % 16) ∷ []
+pub hex_push : (bs : List ℕ) (b : ℕ) → hex (bs ++ b ∷ []) ≡ hex bs ++ character (b / 16) ∷ character (b % 16) ∷ []
 hex_push [] b = refl
 hex_push (x ∷ bs) b = ap (λ (t : List ℕ). character (x / 16) ∷ character (x % 16) ∷ t) (hex_push bs b)
 
