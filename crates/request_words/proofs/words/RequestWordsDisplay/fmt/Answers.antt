@@ -1,9 +1,6 @@
 -- Each arm writes the words of the variant that it matched.
 use Rattle.request_words.proofs.words.RequestWordsDisplay.fmt.Goals as goal
 
-pub returns-in-Open-clause-writes : goal.returns-in-Open-clause-writes
-returns-in-Open-clause-writes g c = rw c.in-Open.is (rw (c.from.ensures, c.from-in-Open.ensures, c.from-in-Open-2.ensures) at c.write.ensures.writes)
-
 pub returns-in-Arm-clause-writes : goal.returns-in-Arm-clause-writes
 returns-in-Arm-clause-writes g c = rw c.in-Arm.is (rw (c.from-in-Arm.ensures, c.from-in-Arm-2.ensures) at c.write-in-Arm.ensures.writes)
 
