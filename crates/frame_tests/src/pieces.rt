@@ -5,13 +5,9 @@ use std::process::Abort;
 use std::test::Fail;
 
 fn same(rt: &impl Abort, line: Option<Line>, text: &[u8]) -> Result<(), Fail> {
-    match line {
-        Some(line) => {
-            assert!(rt; line.as_slice() == text);
-            Ok(())
-        },
-        None => Err(Fail::new("no line ended")),
-    }
+    let line = line.ok_or("no line ended")?;
+    assert!(rt; line.as_slice() == text);
+    Ok(())
 }
 
 // A line over three pieces, an empty line, a carriage return, and a rest.

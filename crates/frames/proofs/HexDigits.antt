@@ -1,16 +1,10 @@
 -- A character and its digit determine each other.
-use Rattle.std.proofs.Common.{◌≡◌, ℕ, zero, suc, ◌+◌, ◌<◌, ◌≤◌, true, false, eqb, Some, None, Ok, Err, Option, sym, refl, ap, ◌∙◌, ⊎_elim, arith}
+use Rattle.std.proofs.Common.{◌≡◌, ℕ, zero, suc, ◌<◌, ◌≤◌, true, false, eqb, Some, None, Ok, Err, Option, sym, refl, ap, ◌∙◌, ⊎_elim, arith}
 use Rattle.std.proofs.lemmas.Bool.{cases_Bool, cond-true, cond-false, eqb-true, eq-eqb, ne_eqb, cases_eq}
 use Rattle.std.proofs.lemmas.Bool.Decides.{nat_tests}
 use Rattle.std.specs.Option.{ok_or}
 use Rattle.frames.specs.declared.faults.LineFault.TheVariants.{NotHex}
 use Rattle.frames.specs.Hex.{character, digit_below, value}
-
-character_low : (d : ℕ) → d < 10 → character d ≡ 48 + d
-character_low d h = grind (arith, nat_tests)
-
-character_high : (d : ℕ) → 10 ≤ d → character d ≡ 55 + d
-character_high d h = grind (arith, nat_tests)
 
 -- two digits with one character are one digit
 pub character_apart : (d e : ℕ) → d < 16 → e < 16 → character d ≡ character e → d ≡ e

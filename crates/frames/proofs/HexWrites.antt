@@ -1,13 +1,13 @@
 -- A buffer filled with characters, byte by byte.
 use Rattle.std.proofs.Common.{◌≡◌, ℕ, ◌+◌, ◌*◌, ◌/◌, ◌%◌, ◌<◌, ◌≤◌, List, [], ◌∷◌, ◌++◌, length, get_or, take, drop, set, sym, refl, ap, ◌∙◌, arith}
-use Rattle.std.proofs.lemmas.List.{append_assoc, drop_more, set_at, length_push, take_more, length-take-le, take_all}
+use Rattle.std.proofs.lemmas.List.{append_assoc, drop_more, set_at, length_push, take_more, length-take-le}
 use Rattle.frames.specs.Check.{check}
 use Rattle.frames.specs.Hex.{character, hex}
 use Rattle.frames.specs.Reading.{with_check}
 use Rattle.frames.specs.Writing.{hexed}
 use Rattle.frames.proofs.ReadBack.{length_hex}
 
-hex_push : (bs : List ℕ) (b : ℕ) → hex (bs ++ b ∷ []) ≡ hex bs ++ character (b / 16) ∷ character (b % 16) ∷ []
+pub hex_push : (bs : List ℕ) (b : ℕ) → hex (bs ++ b ∷ []) ≡ hex bs ++ character (b / 16) ∷ character (b % 16) ∷ []
 hex_push [] b = refl
 hex_push (x ∷ bs) b = ap (λ (t : List ℕ). character (x / 16) ∷ character (x % 16) ∷ t) (hex_push bs b)
 
@@ -37,12 +37,6 @@ pub hexed_more : (bs old : List ℕ) (i : ℕ) → i < length bs → 2 * length 
 hexed_more bs old i h k =
     hexed_push (take i bs) old i (get_or bs i 0) (length-take-le i bs (omega arith)) (omega arith)
     ∙ ap (λ (t : List ℕ). hex t ++ drop (2 * (i + 1)) old) (sym (take_more bs i 0 h))
-
-pub hexed_all : (bs old : List ℕ) (i : ℕ) → length bs ≤ i → i ≤ length bs →
-    hex (take i bs) ++ drop (2 * i) old ≡ hex bs ++ drop (2 * length bs) old
-hexed_all bs old i h k =
-    let e : i ≡ length bs = omega arith in
-    ap (λ (t : List ℕ). hex t ++ drop (2 * i) old) (take_all i bs h) ∙ ap (λ (m : ℕ). hex bs ++ drop (2 * m) old) e
 
 -- a line of bytes and their check byte, in its length and as it stands in a buffer
 pub length_line : (bs : List ℕ) → length (hex (with_check bs)) ≡ 2 * length bs + 2

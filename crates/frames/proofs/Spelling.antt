@@ -1,7 +1,8 @@
 -- The bytes that a line spells, found one after another.
-use Rattle.std.proofs.Common.{◌≡◌, ℕ, ◌+◌, ◌*◌, ◌<◌, List, [], ◌∷◌, ◌++◌, length, get_or, take, drop, set, Some, None, Ok, Err, Option, sym, refl, ap, ◌∙◌, arith}
+use Rattle.std.proofs.Common.{◌≡◌, ℕ, zero, suc, ◌≤◌, subst, ◌+◌, ◌*◌, ◌<◌, List, [], ◌∷◌, ◌++◌, length, get_or, take, drop, set, Some, None, Ok, Err, Option, sym, refl, ap, ◌∙◌, arith}
 use Rattle.std.specs.Option.{ok_or}
-use Rattle.std.proofs.lemmas.List.{append_assoc, append-nil, take_more_set, drop_more, drop_all}
+use Rattle.std.proofs.lemmas.List.{append_assoc, take_more_set, drop_more}
+use Rattle.std.specs.Simd.{first_chunks}
 use Rattle.frames.specs.Hex.{value, pair, before, spelled}
 
 -- the bytes found so far, before those that are left, if they are there
@@ -21,6 +22,27 @@ two_left cs i h =
     let b : drop (2 * i + 1) cs ≡ get_or cs (2 * i + 1) 0 ∷ drop (2 * i + 1 + 1) cs = drop_more cs (2 * i + 1) 0 h in
     let n : 2 * i + 1 + 1 ≡ 2 * (i + 1) = omega arith in
     ap spelled (a ∙ ap (λ (t : List ℕ). get_or cs (2 * i) 0 ∷ t) (b ∙ ap (λ (k : ℕ). get_or cs (2 * i + 1) 0 ∷ drop k cs) n))
+
+-- a chunk of two characters
+chunk_at : (n i : ℕ) (cs d : List ℕ) → i < n → 2 * n ≤ length cs → get_or (first_chunks 2 n cs) i d ≡ get_or cs (2 * i) 0 ∷ get_or cs (2 * i + 1) 0 ∷ []
+chunk_at zero i cs d h k = absurd (omega arith)
+chunk_at (suc n) i [] d h k = absurd (omega arith)
+chunk_at (suc n) i (a ∷ []) d h k = absurd (omega arith)
+chunk_at (suc n) zero (a ∷ (b ∷ cs)) d h k = refl
+chunk_at (suc n) (suc i) (a ∷ (b ∷ cs)) d h k =
+    let e : 2 * suc i ≡ suc (suc (2 * i)) = omega arith in
+    let f : 2 * suc i + 1 ≡ suc (suc (2 * i + 1)) = omega arith in
+    chunk_at n i cs d (omega arith) (omega arith)
+    ∙ ap (λ (j : ℕ). get_or (a ∷ b ∷ cs) j 0 ∷ get_or cs (2 * i + 1) 0 ∷ []) (sym e)
+    ∙ ap (λ (j : ℕ). get_or (a ∷ b ∷ cs) (2 * suc i) 0 ∷ get_or (a ∷ b ∷ cs) j 0 ∷ []) (sym f)
+
+-- the byte of a chunk is that of its two characters
+pub pair_at : (n i : ℕ) (cs d : List ℕ) (pairs : List (List ℕ)) (o : Option ℕ) → pairs ≡ first_chunks 2 n cs → i < n → 2 * n ≤ length cs →
+    pair (value (get_or (get_or pairs i d) 0 0)) (value (get_or (get_or pairs i d) 1 0)) ≡ o →
+    pair (value (get_or cs (2 * i) 0)) (value (get_or cs (2 * i + 1) 0)) ≡ o
+pair_at n i cs d pairs o e h k p =
+    let q = ap (λ ps. get_or ps i d) e ∙ chunk_at n i cs d h k in
+    subst (λ (c : List ℕ). pair (value (get_or c 0 0)) (value (get_or c 1 0)) ≡ o) q p
 
 -- one byte more is found and stored
 pub spelled_more : (cs bs : List ℕ) (i b : ℕ) → 2 * i + 1 < length cs → i < length bs →
@@ -43,14 +65,6 @@ pub spelled_none : (cs bs : List ℕ) (i : ℕ) → 2 * i + 1 < length cs →
 spelled_none cs bs i h p inv =
     let rest : Option (List ℕ) = spelled (drop (2 * (i + 1)) cs) in
     sym inv ∙ ap (after (take i bs)) (two_left cs i h) ∙ ap (λ (o : Option ℕ). after (take i bs) (before o rest)) p
-
--- every character is read
-pub spelled_all : (cs bs : List ℕ) (i n : ℕ) → i ≡ n → length cs ≡ 2 * n →
-    after (take i bs) (spelled (drop (2 * i) cs)) ≡ spelled cs → spelled cs ≡ Some (take n bs)
-spelled_all cs bs i n q e inv =
-    sym inv
-    ∙ ap (λ (t : List ℕ). after (take i bs) (spelled t)) (drop_all (2 * i) cs (omega arith))
-    ∙ ap Some (append-nil (take i bs) ∙ ap (λ (k : ℕ). take k bs) q)
 
 -- what `ok_or` tells of its option
 pub some_from_ok : {A E : Type 0} (o : Option A) (e : E) (b : A) → Ok b ≡ ok_or o e → o ≡ Some b

@@ -1,6 +1,6 @@
 -- A request whose payload is written as a line: that line stands in the buffer, and reads as the request.
-use Rattle.std.proofs.Common.{◌≡◌, ℕ, ◌*◌, ◌/◌, ◌%◌, List, [], ◌∷◌, ◌++◌, length, take, drop, IfOk, Ok, Err, Result, sym, ap, ◌∙◌, subst, arith}
-use Rattle.std.proofs.lemmas.List.{take_at, drop_all}
+use Rattle.std.proofs.Common.{◌≡◌, ℕ, ◌/◌, ◌%◌, List, [], ◌∷◌, take, drop, IfOk, Ok, Err, Result, sym, ap, ◌∙◌, subst, arith}
+use Rattle.std.proofs.lemmas.List.{take_at}
 use Rattle.frames.specs.declared.faults.WriteFault.{WriteFault}
 use Rattle.frames.specs.declared.request.Request.{Request}
 use Rattle.frames.specs.Hex.{hex}
@@ -20,10 +20,6 @@ unfolding line_of
 written r bytes old new res s e w =
     let l : Wrote (line_of r) old new res = subst (λ (bs : List ℕ). Wrote (hex (with_check bs)) old new res) (sym e) w in
     record { line = l; back = line_reads r (line_of r) old new res (read_back r s) l }
-
--- the same of an equal request
-pub written_as : (q r : Request) (old new : List ℕ) (res : Result ℕ WriteFault) → q ≡ r → Written r old new res → Written q old new res
-written_as q r old new res e w = subst (λ (x : Request). Written x old new res) (sym e) w
 
 -- big_endian bytes, as the elements of an array that holds them
 pub four_bytes : (x : ℕ) (r : List ℕ) → r ≡ (x / 16777216 % 256) ∷ (x / 65536 % 256) ∷ (x / 256 % 256) ∷ (x % 256) ∷ [] →
@@ -53,9 +49,5 @@ big_endian_eight x =
 pub eight_bytes : (x : ℕ) (r : List ℕ) → r ≡ eight x → big_endian 8 x ≡ listed r 0 8
 eight_bytes x r p = big_endian_eight x ∙ ap (λ (t : List ℕ). listed t 0 8) (sym p)
 
--- eight bytes fill sixteen characters
-pub hex_eight : (x : ℕ) (r old : List ℕ) → r ≡ eight x → length old ≡ 16 → hex r ++ drop (2 * length r) old ≡ hex (big_endian 8 x)
-hex_eight x r old p n =
-    ap (λ (t : List ℕ). hex t ++ drop (2 * length t) old) p
-    ∙ ap (λ (t : List ℕ). hex (eight x) ++ t) (drop_all 16 old (omega arith))
-    ∙ ap hex (sym (big_endian_eight x))
+pub hex_eight : (x : ℕ) (r : List ℕ) → r ≡ eight x → hex r ≡ hex (big_endian 8 x)
+hex_eight x r p = ap hex (p ∙ sym (big_endian_eight x))

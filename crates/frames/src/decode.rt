@@ -21,9 +21,7 @@ const SHORTEST: usize = 4;
 fn byte(high: u8, low: u8) -> Result<u8, LineFault>
     ensures { result ≡ ok_or (pair (value high) (value low)) NotHex }
 {
-    let high = digit(high)?;
-    let low = digit(low)?;
-    Ok(high * 16 + low)
+    Ok(digit(high)? * 16 + digit(low)?)
 }
 
 // The bytes that an even number of characters spells.
@@ -32,12 +30,15 @@ fn unhex(line: &[u8]) -> Result<FrameBytes, LineFault>
     requires even { length line.now % 2 ≡ 0 }
     ensures { held_in result ≡ ok_or (spelled line.now) NotHex }
 {
+    let (pairs, _) = line.as_chunks::<2>();
     let mut bytes = [0; 64];
-    let len = line.len() / 2;
-    for i in 0..len {
-        bytes[i] = byte(line[2 * i], line[2 * i + 1])?;
+    for (i, [high, low]) in pairs.iter().enumerate() {
+        bytes[i] = byte(*high, *low)?;
     }
-    Ok(FrameBytes { bytes, len })
+    Ok(FrameBytes {
+        bytes,
+        len: pairs.len(),
+    })
 }
 
 // Whether the last byte is the check byte of those before it.
@@ -45,8 +46,9 @@ fn ends_in_check(bytes: &[u8]) -> bool
     requires { 0 < length bytes.now }
     ensures { result ≡ checked bytes.now }
 {
-    let last = bytes.len() - 1;
-    bytes[last] == check_byte(&bytes[0..last])
+    bytes
+        .split_last()
+        .is_some_and(|(last, payload)| *last == check_byte(payload))
 }
 
 // The bytes of the frame that a line spells.

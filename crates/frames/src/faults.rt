@@ -6,17 +6,17 @@ ghost use Rattle.frames.specs.Numbers.{line_number, frame_number, read_number, w
 // The line does not spell a checked frame.
 #[derive(Clone, Copy, PartialEq, Eq, Debug)]
 pub enum LineFault {
-    TooLong,
-    BadCount,
-    NotHex,
-    BadCheck,
+    TooLong = 0x10,
+    BadCount = 0x11,
+    NotHex = 0x12,
+    BadCheck = 0x13,
 }
 
 // The frame is checked, and is none of the six kinds.
 #[derive(Clone, Copy, PartialEq, Eq, Debug)]
 pub enum FrameFault {
-    UnknownKind,
-    WrongLength,
+    UnknownKind = 0x21,
+    WrongLength = 0x22,
 }
 
 // Why a line does not read as a request: the line's fault or the frame's, unaltered.
@@ -29,19 +29,14 @@ pub enum ReadFault {
 // Why a frame is not written.
 #[derive(Clone, Copy, PartialEq, Eq, Debug)]
 pub enum WriteFault {
-    ShortBuffer,
+    ShortBuffer = 0x45,
 }
 
 impl LineFault {
     pub fn number(self) -> u8
         ensures { result ≡ line_number self }
     {
-        match self {
-            LineFault::TooLong => 0x10,
-            LineFault::BadCount => 0x11,
-            LineFault::NotHex => 0x12,
-            LineFault::BadCheck => 0x13,
-        }
+        self as u8
     }
 }
 
@@ -49,10 +44,7 @@ impl FrameFault {
     pub fn number(self) -> u8
         ensures { result ≡ frame_number self }
     {
-        match self {
-            FrameFault::UnknownKind => 0x21,
-            FrameFault::WrongLength => 0x22,
-        }
+        self as u8
     }
 }
 
@@ -71,9 +63,7 @@ impl WriteFault {
     pub fn number(self) -> u8
         ensures { result ≡ write_number self }
     {
-        match self {
-            WriteFault::ShortBuffer => 0x45,
-        }
+        self as u8
     }
 }
 

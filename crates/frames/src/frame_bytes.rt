@@ -1,7 +1,8 @@
 // The bytes of one frame, check byte included, in fixed memory.
 ghost use Rattle.std.specs.Prelude.{◌≡◌, ◌≤◌, take};
 
-// At most 64 bytes, as many as the longest line spells.
+// At most 64 bytes, as many as the longest line spells. A buffer and its length, since a
+// `FrameBytes` is `Copy` and the kit's `ArrayVec` is not.
 #[derive(Clone, Copy)]
 pub struct FrameBytes {
     pub(crate) bytes: [u8; 64],
@@ -13,6 +14,6 @@ impl FrameBytes {
     pub fn as_slice(&self) -> &[u8]
         ensures { result.now ≡ take self.now.len self.now.bytes }
     {
-        &self.bytes[0..self.len]
+        &self.bytes[..self.len]
     }
 }

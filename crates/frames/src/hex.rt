@@ -12,8 +12,8 @@ pub fn digit(sign: u8) -> Result<u8, LineFault>
     ensures small { IfOk result (λ d. d < 16) }
 {
     match sign as char {
-        '0'..='9' => Ok(sign - 48),
-        'A'..='F' => Ok(sign - 55),
+        '0'..='9' => Ok(sign - b'0'),
+        'A'..='F' => Ok(sign - b'A' + 10),
         _ => Err(LineFault::NotHex),
     }
 }
@@ -23,5 +23,9 @@ pub fn sign(number: u8) -> u8
     ensures { result ≡ character (number % 16) }
 {
     let digit = number % 16;
-    if digit < 10 { 48 + digit } else { 55 + digit }
+    if digit < 10 {
+        b'0' + digit
+    } else {
+        b'A' - 10 + digit
+    }
 }

@@ -11,13 +11,13 @@ use crate::request::Request;
 fn open(rest: &[u8]) -> Result<Request, FrameFault>
     ensures { result ≡ asked_as open_kind (1 ∷ rest.now) }
 {
-    let [time_kind, device, a, b, c, d, e, f, g, h, _] = rest else {
+    let &[time_kind, device, a, b, c, d, e, f, g, h, _] = rest else {
         return Err(FrameFault::WrongLength);
     };
-    let start = u64::from_be_bytes([*a, *b, *c, *d, *e, *f, *g, *h]);
+    let start = u64::from_be_bytes([a, b, c, d, e, f, g, h]);
     Ok(Request::Open {
-        time_kind: *time_kind,
-        device: *device,
+        time_kind,
+        device,
         start,
     })
 }
@@ -25,7 +25,7 @@ fn open(rest: &[u8]) -> Result<Request, FrameFault>
 fn arm(rest: &[u8]) -> Result<Request, FrameFault>
     ensures { result ≡ asked_as arm_kind (2 ∷ rest.now) }
 {
-    let [
+    let &[
         n0,
         n1,
         n2,
@@ -51,36 +51,36 @@ fn arm(rest: &[u8]) -> Result<Request, FrameFault>
     else {
         return Err(FrameFault::WrongLength);
     };
-    let number = u32::from_be_bytes([*n0, *n1, *n2, *n3]);
-    let soft = u64::from_be_bytes([*s0, *s1, *s2, *s3, *s4, *s5, *s6, *s7]);
-    let hard = u64::from_be_bytes([*h0, *h1, *h2, *h3, *h4, *h5, *h6, *h7]);
+    let number = u32::from_be_bytes([n0, n1, n2, n3]);
+    let soft = u64::from_be_bytes([s0, s1, s2, s3, s4, s5, s6, s7]);
+    let hard = u64::from_be_bytes([h0, h1, h2, h3, h4, h5, h6, h7]);
     Ok(Request::Arm { number, soft, hard })
 }
 
 fn cancel(rest: &[u8]) -> Result<Request, FrameFault>
     ensures { result ≡ asked_as cancel_kind (3 ∷ rest.now) }
 {
-    let [a, b, c, d, _] = rest else {
+    let &[a, b, c, d, _] = rest else {
         return Err(FrameFault::WrongLength);
     };
-    let number = u32::from_be_bytes([*a, *b, *c, *d]);
+    let number = u32::from_be_bytes([a, b, c, d]);
     Ok(Request::Cancel { number })
 }
 
 fn advance(rest: &[u8]) -> Result<Request, FrameFault>
     ensures { result ≡ asked_as advance_kind (4 ∷ rest.now) }
 {
-    let [a, b, c, d, e, f, g, h, _] = rest else {
+    let &[a, b, c, d, e, f, g, h, _] = rest else {
         return Err(FrameFault::WrongLength);
     };
-    let to = u64::from_be_bytes([*a, *b, *c, *d, *e, *f, *g, *h]);
+    let to = u64::from_be_bytes([a, b, c, d, e, f, g, h]);
     Ok(Request::Advance { to })
 }
 
 fn close(rest: &[u8]) -> Result<Request, FrameFault>
     ensures { result ≡ asked_as close_kind (5 ∷ rest.now) }
 {
-    let [_] = rest else {
+    let &[_] = rest else {
         return Err(FrameFault::WrongLength);
     };
     Ok(Request::Close)
@@ -89,14 +89,11 @@ fn close(rest: &[u8]) -> Result<Request, FrameFault>
 fn arm_by_purpose(rest: &[u8]) -> Result<Request, FrameFault>
     ensures { result ≡ asked_as purpose_kind (6 ∷ rest.now) }
 {
-    let [a, b, c, d, purpose, _] = rest else {
+    let &[a, b, c, d, purpose, _] = rest else {
         return Err(FrameFault::WrongLength);
     };
-    let number = u32::from_be_bytes([*a, *b, *c, *d]);
-    Ok(Request::ArmByPurpose {
-        number,
-        purpose: *purpose,
-    })
+    let number = u32::from_be_bytes([a, b, c, d]);
+    Ok(Request::ArmByPurpose { number, purpose })
 }
 
 fn request_of(frame: &[u8]) -> Result<Request, FrameFault>

@@ -24,8 +24,8 @@ fn put_all(buffer: &mut [u8], bytes: &[u8])
     requires { 2 * length bytes.now ≤ length buffer.old }
     ensures { buffer.new ≡ hex bytes.now ++ drop (2 * length bytes.now) buffer.old }
 {
-    for i in 0..bytes.len() {
-        put(buffer, 2 * i, bytes[i]);
+    for (i, byte) in bytes.iter().enumerate() {
+        put(buffer, 2 * i, *byte);
     }
 }
 
@@ -42,22 +42,28 @@ pub fn write_frame(payload: &[u8], buffer: &mut [u8]) -> Result<usize, WriteFaul
     Ok(2 * last + 2)
 }
 
+// The characters of bytes that fill N of them.
+fn hex_text<const N: usize>(bytes: &[u8]) -> [u8; N]
+    requires { N ≡ 2 * length bytes.now }
+    ensures { result ≡ hex bytes.now }
+{
+    let mut text = [0; N];
+    put_all(&mut text, bytes);
+    text
+}
+
 // The two characters of a byte.
 pub fn hex_byte(byte: u8) -> [u8; 2]
     ensures { result ≡ hex (byte ∷ []) }
 {
-    let mut text = [0; 2];
-    put_all(&mut text, &[byte]);
-    text
+    hex_text(&[byte])
 }
 
 // The sixteen characters of a time field.
 pub fn hex_time(time: u64) -> [u8; 16]
     ensures { result ≡ hex (big_endian 8 time) }
 {
-    let mut text = [0; 16];
-    put_all(&mut text, &time.to_be_bytes());
-    text
+    hex_text(&time.to_be_bytes())
 }
 
 fn write_open(time_kind: u8, device: u8, start: u64, buffer: &mut [u8]) -> Result<usize, WriteFault>

@@ -1,10 +1,10 @@
 -- However the input is cut into pieces, the lines handed on are those of the whole.
-use Rattle.std.proofs.Common.{◌≡◌, ℕ, zero, suc, ◌+◌, ◌<◌, ◌≤◌, true, false, eqb, List, [], ◌∷◌, ◌++◌, map, length, take, Some, None, Option, sym, refl, ap, ◌∙◌, subst, ⊎_elim, add-one, arith}
-use Rattle.std.proofs.lemmas.List.{append_assoc, append-nil, take_all, take-take}
+use Rattle.std.proofs.Common.{◌≡◌, ℕ, zero, suc, ◌+◌, ◌≤◌, true, false, eqb, List, [], ◌∷◌, ◌++◌, map, length, min, take, Some, None, Option, sym, refl, ap, ◌∙◌, subst, ⊎_elim, add-one, arith}
+use Rattle.std.proofs.lemmas.List.{append_assoc, append-nil, take_all, take-take, take_min}
 use Rattle.std.proofs.lemmas.Bool.{cases_Bool, cond-true, cond-false, eqb-true, true≢false}
 use Rattle.lines.specs.declared.line.Line.{Line}
 use Rattle.lines.specs.Lines.{starting, lines, keeping, cut_lines, feeds, before_feed, kept, Took, handed, Split, ended}
-use Rattle.lines.proofs.LineSteps.{take_front}
+use Rattle.lines.proofs.LineSteps.{take_front, before_front}
 
 -- a byte that is no line feed, and none after it
 unfed : (b : ℕ) (bs : List ℕ) → feeds (b ∷ bs) ≡ false → (eqb b 10 ≡ false) × (feeds bs ≡ false)
@@ -61,9 +61,6 @@ cut_feed [] more h = refl
 cut_feed (b ∷ q) more h =
     ap (map keeping) (lines_front b q (10 ∷ more) h)
     ∙ ap (λ (l : List ℕ). keeping l ∷ cut_lines more) (append-nil (b ∷ q))
-
-pub split_none : Split [] [] []
-split_none = record { unended = refl; whole = λ more. refl }
 
 split_on : (past : List ℕ) (done : List (List ℕ)) (rest piece : List ℕ) → feeds piece ≡ false → Split past done rest →
     Split (past ++ piece) (done ++ []) (keeping (rest ++ piece))
@@ -148,29 +145,14 @@ split_last past done rest n s =
     ∙ ap (λ (t : List ℕ). done ++ cut_lines t) (append-nil rest)
     ∙ ap (λ (t : List (List ℕ)). done ++ t) (cut_rest rest s.unended n)
 
-pub ended_none : (rest : List ℕ) → length rest ≡ 0 → [] ≡ ended rest
-ended_none [] h = refl
-ended_none (b ∷ q) h = absurd (omega arith)
-
-pub ended_one : (rest : List ℕ) → (length rest ≡ 0 → ⊥) → rest ∷ [] ≡ ended rest
-ended_one [] h = absurd (h refl)
-ended_one (b ∷ q) h = refl
-
-before_front : (bs : List ℕ) → before_feed bs ≡ take (length (before_feed bs)) bs
-before_front [] = refl
-before_front (b ∷ bs) =
-    ⊎_elim {C = before_feed (b ∷ bs) ≡ take (length (before_feed (b ∷ bs))) (b ∷ bs)}
-    (λ t. let e = cond-true (eqb b 10) [] (b ∷ before_feed bs) t in e ∙ ap (λ (l : List ℕ). take (length l) (b ∷ bs)) (sym e))
-    (λ t. let e = cond-false (eqb b 10) [] (b ∷ before_feed bs) t in
-    e ∙ ap (λ (l : List ℕ). b ∷ l) (before_front bs) ∙ ap (λ (l : List ℕ). take (length l) (b ∷ bs)) (sym e))
-    (cases_Bool (eqb b 10))
-
--- a line before its feed, kept whole or cut
-pub front_whole : (piece : List ℕ) (n : ℕ) → n ≡ length (before_feed piece) → n < 129 → take n piece ≡ keeping (before_feed piece)
-front_whole piece n e h = ap (λ (k : ℕ). take k piece) e ∙ sym (before_front piece) ∙ sym (take_all 129 (before_feed piece) (omega arith))
-
-pub front_cut : (piece : List ℕ) (n : ℕ) → n ≡ length (before_feed piece) → 129 ≤ n → take 129 piece ≡ keeping (before_feed piece)
-front_cut piece n e h = sym (ap keeping (before_front piece) ∙ take-take 129 (length (before_feed piece)) piece (omega arith))
+-- a line before its feed, with as much of it as is kept
+pub front_kept : (piece : List ℕ) (n m : ℕ) → n ≡ length (before_feed piece) → m ≡ min n 129 → take m piece ≡ keeping (before_feed piece)
+front_kept piece n m e h =
+    let k : m ≡ min 129 (length (before_feed piece)) = omega arith in
+    ap (λ (i : ℕ). take i piece) k
+    ∙ sym (take-take (min 129 (length (before_feed piece))) (length (before_feed piece)) piece (omega arith))
+    ∙ ap (take (min 129 (length (before_feed piece)))) (sym (before_front piece))
+    ∙ take_min 129 (before_feed piece)
 
 -- a line that begins and ends in a piece carries the split on
 pub split_whole : (past : List ℕ) (done : List (List ℕ)) (old piece : List ℕ) (used len : ℕ) →

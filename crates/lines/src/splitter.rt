@@ -3,11 +3,9 @@
 ghost use Rattle.std.specs.Prelude.{◌≡◌, ℕ, ◌<◌, ◌≤◌, List, [], ◌∷◌, ◌++◌, length, take};
 ghost use Rattle.lines.specs.Lines.{kept, keeping, cut_lines, Took, handed, ended, Split, BeginsAndEnds, Passed, Within};
 
-use crate::line::Line;
+use crate::line::{KEPT, Line};
 use crate::whole::{Whole, first_feed};
-
-// How many bytes of a line are kept.
-const KEPT: usize = 129;
+use std::mem;
 
 // What has come of a line that has not ended yet.
 #[derive(Clone, Copy)]
@@ -22,32 +20,12 @@ pub struct Taken {
     pub line: Option<Line>,
 }
 
-fn empty_line() -> Line
-    ensures { kept result ≡ [] }
-{
-    Line {
-        bytes: [0; 129],
-        len: 0,
-    }
-}
-
-// One byte more of a line; past the first 129 it is let go.
-fn keep(line: &mut Line, byte: u8)
-    ensures { kept line.new ≡ keeping (kept line.old ++ byte ∷ []) }
-{
-    let at = line.len;
-    if at < KEPT {
-        line.bytes[at] = byte;
-        line.len = at + 1;
-    }
-}
-
 impl LineSplitter {
     // Nothing has come yet.
     pub fn new() -> LineSplitter
         ensures { Split [] [] (kept result.line) }
     {
-        LineSplitter { line: empty_line() }
+        LineSplitter { line: Line::new() }
     }
 
     // Takes bytes of a piece up to its first line feed, or all of them.
@@ -57,21 +35,22 @@ impl LineSplitter {
         ensures onward { 0 < length piece.now → 0 < result.used }
         ensures splits { (past : List ℕ) (done : List (List ℕ)) → Split past done (kept self.old.line) → Split (past ++ take result.used piece.now) (done ++ handed result.line) (kept self.new.line) }
     {
-        for i in 0..piece.len() {
-            let byte = piece[i];
-            if byte == 10 {
-                let line = self.line;
-                self.line = empty_line();
-                return Taken {
-                    used: i + 1,
+        match first_feed(piece) {
+            Some(at) => {
+                self.line.keep(&piece[..at]);
+                let line = mem::replace(&mut self.line, Line::new());
+                Taken {
+                    used: at + 1,
                     line: Some(line),
-                };
+                }
             }
-            keep(&mut self.line, byte);
-        }
-        Taken {
-            used: piece.len(),
-            line: None,
+            None => {
+                self.line.keep(piece);
+                Taken {
+                    used: piece.len(),
+                    line: None,
+                }
+            }
         }
     }
 
@@ -85,13 +64,9 @@ impl LineSplitter {
         if !self.line.as_slice().is_empty() {
             return None;
         }
-        let feed = first_feed(piece);
-        if feed == piece.len() {
-            return None;
-        }
-        let len = if feed < KEPT { feed } else { KEPT };
+        let feed = first_feed(piece)?;
         Some(Whole {
-            len,
+            len: feed.min(KEPT),
             used: feed + 1,
         })
     }
@@ -101,10 +76,6 @@ impl LineSplitter {
         ensures rest { handed result ≡ ended (kept self.line) }
         ensures lines { (past : List ℕ) (done : List (List ℕ)) → Split past done (kept self.line) → cut_lines past ≡ done ++ handed result }
     {
-        if self.line.as_slice().is_empty() {
-            None
-        } else {
-            Some(self.line)
-        }
+        (!self.line.as_slice().is_empty()).then_some(self.line)
     }
 }

@@ -2,7 +2,7 @@
 // how many lines, frames and refusals there were. What a line becomes is decided in the libraries.
 #![tactic(auto)]
 
-ghost use Rattle.std.specs.Prelude.{◌≡◌, ◌+◌, ◌≤◌, length, IfOk, OnOk};
+ghost use Rattle.std.specs.Prelude.{◌≤◌, length, IfOk};
 
 use frames::read::read;
 use lines::splitter::LineSplitter;
@@ -10,122 +10,86 @@ use request_words::buffers::put_line;
 use request_words::place::LONGEST;
 use request_words::tally::Tally;
 use std::io;
-use std::io::{Read, Stdin, Stdout, Write};
+use std::io::{BufWriter, Read, Stdin, Stdout, Write};
 
-// What is to be written, and is not written yet.
+// The lines of a file that have come so far, counted and put in words.
 #[derive(Drop)]
-struct Page {
-    bytes: [u8; 65536],
-    len: usize,
-    ghost within: { len ≤ 65536 },
+struct Desk {
+    input: Stdin,
+    splitter: LineSplitter,
+    tally: Tally,
+    output: BufWriter<Stdout>,
 }
 
-fn write_out(page: &mut Page, out: &mut Stdout) -> io::Result<()>
-    ensures { OnOk result (page.new.len ≡ 0) }
-{
-    out.write_all(&page.bytes[0..page.len])?;
-    page.len = 0;
-    Ok(())
-}
-
-// Sees that there is room for the longest line.
-fn make_room(page: &mut Page, out: &mut Stdout) -> io::Result<()>
-    ensures { OnOk result (page.new.len + 88 ≤ 65536) }
-{
-    if page.len > 65536 - LONGEST {
-        write_out(page, out)?;
+impl Desk {
+    fn new(rt: HostRuntime) -> io::Result<Desk> {
+        Ok(Desk {
+            input: rt.stdin(),
+            splitter: LineSplitter::new(),
+            tally: Tally::new(),
+            output: BufWriter::with_capacity(rt.alloc(), 65536, rt.stdout())?,
+        })
     }
-    Ok(())
-}
 
-// One line more of the file: counted, and put in words.
-fn take_line(line: &[u8], tally: &mut Tally, page: &mut Page, out: &mut Stdout) -> io::Result<()> {
-    make_room(page, out)?;
-    let answer = read(line);
-    tally.count(&answer);
-    let at = page.len;
-    page.len = put_line(&mut page.bytes, at, tally.lines, &answer).unwrap();
-    Ok(())
-}
+    // Reads a piece more; before a failed read is handed on, what was put in words so far is written.
+    fn read_piece(&mut self, piece: &mut [u8]) -> io::Result<usize>
+        ensures { IfOk result (λ n. n ≤ length piece.old) }
+    {
+        let count = self.input.read(piece);
+        if count.is_err() {
+            self.output.flush()?;
+        }
+        count
+    }
 
-// The lines that end in one piece of the input.
-fn take_piece(
-    piece: &[u8],
-    splitter: &mut LineSplitter,
-    tally: &mut Tally,
-    page: &mut Page,
-    out: &mut Stdout,
-) -> io::Result<()> {
-    let mut at = 0;
-    while at < piece.len() {
-        let rest = &piece[at..];
-        if let Some(whole) = splitter.whole_line(rest) {
-            let len = whole.len;
-            take_line(&rest[0..len], tally, page, out)?;
-            at += whole.used;
-        } else {
-            let taken = splitter.feed(rest);
-            if let Some(line) = taken.line {
-                take_line(line.as_slice(), tally, page, out)?;
+    // One line more of the file: counted, and put in words.
+    fn take_line(&mut self, line: &[u8]) -> io::Result<()> {
+        let answer = read(line);
+        self.tally.count(&answer);
+        let mut text = [0; LONGEST];
+        let len = put_line(&mut text, 0, self.tally.lines, &answer).unwrap();
+        self.output.write_all(&text[..len])
+    }
+
+    // The lines that end in one piece of the input.
+    fn take_piece(&mut self, piece: &[u8]) -> io::Result<()> {
+        let mut rest = piece;
+        while !rest.is_empty() {
+            if let Some(whole) = self.splitter.whole_line(rest) {
+                self.take_line(&rest[..whole.len])?;
+                rest = &rest[whole.used..];
+            } else {
+                let taken = self.splitter.feed(rest);
+                if let Some(line) = taken.line {
+                    self.take_line(line.as_slice())?;
+                }
+                rest = &rest[taken.used..];
             }
-            at += taken.used;
         }
+        Ok(())
     }
-    Ok(())
-}
 
-// Reads a piece more; before a failed read is handed on, what was put in words so far is written.
-fn read_piece(
-    input: &mut Stdin,
-    buffer: &mut [u8],
-    page: &mut Page,
-    out: &mut Stdout,
-) -> io::Result<usize>
-    ensures { IfOk result (λ n. n ≤ length buffer.old) }
-{
-    match input.read(buffer) {
-        Ok(count) => Ok(count),
-        Err(error) => {
-            write_out(page, out)?;
-            Err(error)
+    // The rest of the input, if it is a line, and the summary.
+    fn finish(mut self) -> io::Result<()> {
+        if let Some(line) = self.splitter.finish() {
+            self.take_line(line.as_slice())?;
         }
+        let mut text = [0; LONGEST];
+        let len = self.tally.put_summary(&mut text, 0).unwrap();
+        self.output.write_all(&text[..len])?;
+        self.output.flush()
     }
-}
-
-// The last line of the output.
-fn put_summary(tally: &Tally, page: &mut Page, out: &mut Stdout) -> io::Result<()> {
-    make_room(page, out)?;
-    let at = page.len;
-    page.len = tally.put_summary(&mut page.bytes, at).unwrap();
-    write_out(page, out)
 }
 
 fn main(rt: HostRuntime) -> io::Result<()> {
-    let mut input = rt.stdin();
-    let mut out = rt.stdout();
-    let mut splitter = LineSplitter::new();
-    let mut tally = Tally::new();
-    let mut page = Page {
-        bytes: [0; 65536],
-        len: 0,
-    };
-    let mut buffer = [0; 65536];
+    let mut desk = Desk::new(rt)?;
+    let mut piece = [0; 65536];
     for _ in 0..u64::MAX {
-        let count = read_piece(&mut input, &mut buffer, &mut page, &mut out)?;
+        let count = desk.read_piece(&mut piece)?;
         if count == 0 {
             break;
         }
-        take_piece(
-            &buffer[0..count],
-            &mut splitter,
-            &mut tally,
-            &mut page,
-            &mut out,
-        )?;
+        desk.take_piece(&piece[..count])?;
     }
-    if let Some(line) = splitter.finish() {
-        take_line(line.as_slice(), &mut tally, &mut page, &mut out)?;
-    }
-    put_summary(&tally, &mut page, &mut out)?;
-    out.flush()
+    desk.finish()
 }

@@ -1,1 +1,2 @@
+pub mod HexTexts
 pub mod Placings

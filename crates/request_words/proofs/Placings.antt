@@ -1,12 +1,11 @@
 -- Bytes put behind bytes are the two put as one.
-use Rattle.std.proofs.Common.{◌≡◌, ℕ, ◌+◌, ◌-◌, ◌/◌, ◌%◌, ◌^◌, ◌<◌, ◌≤◌, List, [], ◌∷◌, ◌++◌, length, take, drop, set, decimal, sym, refl, ap, ◌∙◌, subst, add-one, arith, lit<}
-use borrow.Rule.Slice.PartMut.{put_mid}
+use Rattle.std.proofs.Common.{◌≡◌, ℕ, ◌+◌, List, ◌++◌, length, sym, refl, ap, ◌∙◌, subst, arith}
 use lib.Seq.{paste}
-use Rattle.std.proofs.lemmas.Fmt.{decimal_step, length-decimal-le}
 use Rattle.std.proofs.lemmas.List.Edits.{paste_all, paste-paste}
-use Rattle.std.proofs.lemmas.List.{append_assoc, length-append, length_push, set_split}
-use Rattle.std.proofs.lemmas.Slice.{put_mid-paste}
+use Rattle.std.proofs.lemmas.List.{length-append}
+use Rattle.request_words.specs.declared.place.Sheet.{Sheet}
 use Rattle.request_words.specs.Placing.{placed, Placed}
+use Rattle.request_words.specs.Sheets.{Puts}
 
 placed_paste : (bs old : List ℕ) (at : ℕ) → placed bs old at ≡ paste old at bs (length bs)
 placed_paste bs old at = sym (paste_all old at bs (length bs) refl)
@@ -28,28 +27,15 @@ placed_then xs ys old mid new at e f n p q =
           ∙ sym (placed_paste (xs ++ ys) old at);
     }
 
--- a label and its value, and then more
-pub labelled_then : (label value ys old mid new : List ℕ) (at e f : ℕ) → length mid ≡ length old → Placed (label ++ value) old at mid e → Placed ys mid e new f → Placed (label ++ (value ++ ys)) old at new f
-labelled_then label value ys old mid new at e f n p q =
-    subst (λ (xs : List ℕ). Placed xs old at new f) (append_assoc label value ys) (placed_then (label ++ value) ys old mid new at e f n p q)
+-- the same on a sheet
+pub puts_then : {xs ys : List ℕ} {old mid new : Sheet} → Puts xs old mid → Puts ys mid new → Puts (xs ++ ys) old new
+puts_then p q =
+    record {
+      same = q.same ∙ p.same;
+      size = q.size ∙ p.size;
+      placed = placed_then _ _ _ _ _ _ _ _ p.size p.placed q.placed;
+    }
 
--- one byte
-pub placed_one : (b : ℕ) (old : List ℕ) (at : ℕ) → at < length old → Placed (b ∷ []) old at (set old at b) (at + 1)
-placed_one b old at h =
-    record { behind = refl; within = omega arith; whole = set_split old at b h ∙ ap (λ (k : ℕ). take at old ++ b ∷ drop k old) (sym (add-one at)) }
-
--- a part of the buffer overwritten
-pub placed_part : (bs old : List ℕ) (at end : ℕ) → end ≡ at + length bs → end ≤ length old → Placed bs old at (put_mid at (end - at) old bs) end
-placed_part bs old at end e h =
-    record { behind = e; within = h; whole = put_mid-paste at (end - at) old bs bs (length bs) refl (omega arith) refl ∙ sym (placed_paste bs old at) }
-
--- how long numbers are in decimal
-pub long_digits : (n : ℕ) → n < 2 ^ 64 → length (decimal n) ≤ 20
-long_digits n h = length-decimal-le 20 n (lit< tt) (omega arith) h
-
-pub short_digits : (n : ℕ) → n < 2 ^ 32 → length (decimal n) ≤ 10
-short_digits n h = length-decimal-le 10 n (lit< tt) (omega arith) (omega arith)
-
--- the last digit behind the others
-pub decimal_longer : (n : ℕ) → 10 ≤ n → n < 2 ^ 64 → length (decimal n) ≡ length (decimal (n / 10)) + 1
-decimal_longer n h k = ap length (decimal_step n h k) ∙ length_push (decimal (n / 10)) (48 + n % 10)
+-- the same bytes
+pub puts_as : {xs ys : List ℕ} {old new : Sheet} → xs ≡ ys → Puts xs old new → Puts ys old new
+puts_as {xs} {ys} {old} {new} e p = subst (λ (t : List ℕ). Puts t old new) e p

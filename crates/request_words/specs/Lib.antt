@@ -1,3 +1,4 @@
 pub mod Placing
+pub mod Sheets
 pub mod Tallies
 pub mod Words

@@ -1,69 +1,91 @@
 // One line of a request file in words, put at a place of a lent buffer.
-ghost use Rattle.std.specs.Prelude.{◌≡◌, ◌+◌, ◌≤◌, ◌++◌, length};
+ghost use Rattle.std.specs.Prelude.{◌+◌, ◌≤◌};
 ghost use Rattle.frames.specs.declared.request.Request.TheVariants.{Open, Arm, ArmByPurpose};
-ghost use Rattle.request_words.specs.Placing.{Placed, PlacedIn};
+ghost use Rattle.request_words.specs.Placing.{PlacedIn};
 ghost use Rattle.request_words.specs.Words.{request_words, answer_words, full_line};
 
-use crate::place::{LONGEST, put, put_byte, put_decimal, put_number, put_time};
+use crate::place::{Sheet, has_room};
 use frames::faults::ReadFault;
 use frames::request::Request;
+use frames::write::{hex_byte, hex_time};
 
-fn put_open(out: &mut [u8], at: usize, time_kind: u8, device: u8, start: u64) -> usize
-    requires { at + 65 ≤ length out.old }
-    ensures placed { Placed (request_words (Open time_kind device start)) out.old at out.new result }
-    ensures short { result ≤ at + 65 }
-{
-    let second = put_byte(out, at, b"open time-kind=", time_kind);
-    let third = put_byte(out, second, b" device=", device);
-    put_time(out, third, b" start=", start)
-}
+impl Sheet<'_> {
+    ghost use Rattle.request_words.specs.Sheets.{room, Puts};
 
-fn put_arm(out: &mut [u8], at: usize, number: u32, soft: u64, hard: u64) -> usize
-    requires { at + 65 ≤ length out.old }
-    ensures placed { Placed (request_words (Arm number soft hard)) out.old at out.new result }
-    ensures short { result ≤ at + 65 }
-{
-    let second = put_number(out, at, b"arm number=", number as u64);
-    let third = put_time(out, second, b" soft=", soft);
-    put_time(out, third, b" hard=", hard)
-}
-
-fn put_purpose(out: &mut [u8], at: usize, number: u32, purpose: u8) -> usize
-    requires { at + 65 ≤ length out.old }
-    ensures placed { Placed (request_words (ArmByPurpose number purpose)) out.old at out.new result }
-    ensures short { result ≤ at + 65 }
-{
-    let second = put_number(out, at, b"arm-by-purpose number=", number as u64);
-    put_byte(out, second, b" purpose=", purpose)
-}
-
-fn put_request(out: &mut [u8], at: usize, request: &Request) -> usize
-    requires { at + 65 ≤ length out.old }
-    ensures placed { Placed (request_words request.now) out.old at out.new result }
-    ensures short { result ≤ at + 65 }
-{
-    match *request {
-        Request::Open {
-            time_kind,
-            device,
-            start,
-        } => put_open(out, at, time_kind, device, start),
-        Request::Arm { number, soft, hard } => put_arm(out, at, number, soft, hard),
-        Request::Cancel { number } => put_number(out, at, b"cancel number=", number as u64),
-        Request::Advance { to } => put_time(out, at, b"advance to=", to),
-        Request::Close => put(out, at, b"close"),
-        Request::ArmByPurpose { number, purpose } => put_purpose(out, at, number, purpose),
+    fn put_open(&mut self, time_kind: u8, device: u8, start: u64)
+        requires { 65 ≤ room self.old }
+        ensures puts { Puts (request_words (Open time_kind device start)) self.old self.new }
+        ensures short { self.new.at ≤ self.old.at + 65 }
+    {
+        self.put(b"open time-kind=");
+        self.put(&hex_byte(time_kind));
+        self.put(b" device=");
+        self.put(&hex_byte(device));
+        self.put(b" start=");
+        self.put(&hex_time(start));
     }
-}
 
-fn put_answer(out: &mut [u8], at: usize, answer: &Result<Request, ReadFault>) -> usize
-    requires { at + 65 ≤ length out.old }
-    ensures placed { Placed (answer_words answer.now) out.old at out.new result }
-    ensures short { result ≤ at + 65 }
-{
-    match answer {
-        Ok(request) => put_request(out, at, request),
-        Err(fault) => put_byte(out, at, b"refused ", fault.number()),
+    fn put_arm(&mut self, number: u32, soft: u64, hard: u64)
+        requires { 65 ≤ room self.old }
+        ensures puts { Puts (request_words (Arm number soft hard)) self.old self.new }
+        ensures short { self.new.at ≤ self.old.at + 65 }
+    {
+        self.put(b"arm number=");
+        self.put_number(number);
+        self.put(b" soft=");
+        self.put(&hex_time(soft));
+        self.put(b" hard=");
+        self.put(&hex_time(hard));
+    }
+
+    fn put_purpose(&mut self, number: u32, purpose: u8)
+        requires { 65 ≤ room self.old }
+        ensures puts { Puts (request_words (ArmByPurpose number purpose)) self.old self.new }
+        ensures short { self.new.at ≤ self.old.at + 65 }
+    {
+        self.put(b"arm-by-purpose number=");
+        self.put_number(number);
+        self.put(b" purpose=");
+        self.put(&hex_byte(purpose));
+    }
+
+    fn put_request(&mut self, request: &Request)
+        requires { 65 ≤ room self.old }
+        ensures puts { Puts (request_words request.now) self.old self.new }
+        ensures short { self.new.at ≤ self.old.at + 65 }
+    {
+        match *request {
+            Request::Open {
+                time_kind,
+                device,
+                start,
+            } => self.put_open(time_kind, device, start),
+            Request::Arm { number, soft, hard } => self.put_arm(number, soft, hard),
+            Request::Cancel { number } => {
+                self.put(b"cancel number=");
+                self.put_number(number);
+            }
+            Request::Advance { to } => {
+                self.put(b"advance to=");
+                self.put(&hex_time(to));
+            }
+            Request::Close => self.put(b"close"),
+            Request::ArmByPurpose { number, purpose } => self.put_purpose(number, purpose),
+        }
+    }
+
+    fn put_answer(&mut self, answer: &Result<Request, ReadFault>)
+        requires { 65 ≤ room self.old }
+        ensures puts { Puts (answer_words answer.now) self.old self.new }
+        ensures short { self.new.at ≤ self.old.at + 65 }
+    {
+        match answer {
+            Ok(request) => self.put_request(request),
+            Err(fault) => {
+                self.put(b"refused ");
+                self.put(&hex_byte(fault.number()));
+            }
+        }
     }
 }
 
@@ -77,11 +99,13 @@ pub fn put_line(
 ) -> Option<usize>
     ensures { PlacedIn 88 (full_line number answer.now) out.old at out.new result }
 {
-    if out.len() < LONGEST || out.len() - LONGEST < at {
+    if !has_room(out, at) {
         return None;
     }
-    let colon = put_decimal(out, at, number);
-    let words = put(out, colon, b": ");
-    let feed = put_answer(out, words, answer);
-    Some(put(out, feed, b"\n"))
+    let mut sheet = Sheet { out, at };
+    sheet.put_number(number);
+    sheet.put(b": ");
+    sheet.put_answer(answer);
+    sheet.put(b"\n");
+    Some(sheet.at)
 }

@@ -1,43 +1,39 @@
-// Bytes and times as capital hexadecimal.
+// Bytes as capital hexadecimal.
 ghost use Rattle.std.specs.Prelude.{◌≡◌, [], ◌∷◌, Some};
-ghost use Rattle.std.specs.Fmt.{WritesOnOk};
 ghost use Rattle.frames.specs.Hex.{hex};
 ghost use Rattle.frames.specs.Reading.{big_endian};
 
-use frames::write::{hex_byte, hex_time};
 use std::fmt;
-use std::str::from_utf8;
 
-// A byte as two characters.
+// Bytes as two characters each.
 #[derive(Clone, Copy)]
-pub struct HexByte(pub u8);
+pub struct Hex<const N: usize>(pub [u8; N]);
 
-// A time field as sixteen characters.
-#[derive(Clone, Copy)]
-pub struct HexTime(pub u64);
+// A byte.
+impl From<u8> for Hex<1> {
+    ghost from_gives = { λ byte r. r.0 ≡ byte ∷ [] };
 
-// Characters that are text, which every hexadecimal digit is.
-fn put_text<W: fmt::Write>(characters: &[u8], f: &mut fmt::Formatter<W>) -> fmt::Result
-    ensures { WritesOnOk W.Write.write_str_gives f.old result characters.now f.new }
-{
-    match from_utf8(characters) {
-        Ok(text) => f.write_str(text),
-        Err(_) => Err(fmt::Error),
+    fn from(byte: u8) -> Hex<1> {
+        Hex([byte])
     }
 }
 
-impl fmt::Display for HexByte {
-    ghost output = { λ x. Some (hex (x.0 ∷ [])) };
+// A time field, the highest byte first.
+impl From<u64> for Hex<8> {
+    ghost from_gives = { λ time r. r.0 ≡ big_endian 8 time };
 
-    fn fmt<W: fmt::Write>(&self, f: &mut fmt::Formatter<W>) -> fmt::Result {
-        put_text(&hex_byte(self.0), f)
+    fn from(time: u64) -> Hex<8> {
+        Hex(time.to_be_bytes())
     }
 }
 
-impl fmt::Display for HexTime {
-    ghost output = { λ x. Some (hex (big_endian 8 x.0)) };
+impl<const N: usize> fmt::Display for Hex<N> {
+    ghost output = { λ x. Some (hex x.0) };
 
     fn fmt<W: fmt::Write>(&self, f: &mut fmt::Formatter<W>) -> fmt::Result {
-        put_text(&hex_time(self.0), f)
+        for &byte in &self.0 {
+            write!(f, "{byte:02X}")?;
+        }
+        Ok(())
     }
 }

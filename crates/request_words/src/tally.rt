@@ -1,40 +1,42 @@
 // How many lines, frames and refusals there were, and the summary that says so.
-ghost use Rattle.std.specs.Prelude.{◌≡◌, ◌+◌, ◌≤◌, ◌++◌, length, Some};
-ghost use Rattle.request_words.specs.Placing.{Placed, PlacedIn};
+ghost use Rattle.std.specs.Prelude.{◌≡◌, ◌≤◌, Some};
+ghost use Rattle.request_words.specs.Placing.{PlacedIn};
 ghost use Rattle.request_words.specs.Tallies.{counted, summary, tally_words};
 
-use crate::place::{LONGEST, put, put_decimal, put_number};
+use crate::place::{Sheet, has_room};
 use frames::faults::ReadFault;
 use frames::request::Request;
 use std::fmt;
 
 // Counts stop at the largest number, which no file reaches.
-#[derive(Clone, Copy, PartialEq, Eq, Debug)]
+#[derive(Clone, Copy, Default, PartialEq, Eq, Debug)]
 pub struct Tally {
     pub lines: u64,
     pub frames: u64,
     pub refused: u64,
 }
 
-fn put_counts(out: &mut [u8], at: usize, lines: u64, frames: u64, refused: u64) -> usize
-    requires { at + 88 ≤ length out.old }
-    ensures { Placed (summary (record { lines = lines; frames = frames; refused = refused })) out.old at out.new result }
-{
-    let first = put_decimal(out, at, lines);
-    let second = put_number(out, first, b" lines, ", frames);
-    let third = put_number(out, second, b" frames, ", refused);
-    put(out, third, b" refused\n")
+impl Sheet<'_> {
+    ghost use Rattle.request_words.specs.Sheets.{room, Puts};
+
+    fn put_tally(&mut self, tally: &Tally)
+        requires { 88 ≤ room self.old }
+        ensures { Puts (summary tally.now) self.old self.new }
+    {
+        self.put_number(tally.lines);
+        self.put(b" lines, ");
+        self.put_number(tally.frames);
+        self.put(b" frames, ");
+        self.put_number(tally.refused);
+        self.put(b" refused\n");
+    }
 }
 
 impl Tally {
     pub fn new() -> Tally
         ensures { result ≡ record { lines = 0; frames = 0; refused = 0 } }
     {
-        Tally {
-            lines: 0,
-            frames: 0,
-            refused: 0,
-        }
+        Tally::default()
     }
 
     // One line more.
@@ -53,10 +55,12 @@ impl Tally {
     pub fn put_summary(&self, out: &mut [u8], at: usize) -> Option<usize>
         ensures { PlacedIn 88 (summary self.now) out.old at out.new result }
     {
-        if out.len() < LONGEST || out.len() - LONGEST < at {
+        if !has_room(out, at) {
             return None;
         }
-        Some(put_counts(out, at, self.lines, self.frames, self.refused))
+        let mut sheet = Sheet { out, at };
+        sheet.put_tally(self);
+        Some(sheet.at)
     }
 }
 
@@ -64,9 +68,10 @@ impl fmt::Display for Tally {
     ghost output = { λ t. Some (tally_words t) };
 
     fn fmt<W: fmt::Write>(&self, f: &mut fmt::Formatter<W>) -> fmt::Result {
-        let lines = self.lines;
-        let frames = self.frames;
-        let refused = self.refused;
-        write!(f, "{lines} lines, {frames} frames, {refused} refused")
+        write!(
+            f,
+            "{} lines, {} frames, {} refused",
+            self.lines, self.frames, self.refused
+        )
     }
 }

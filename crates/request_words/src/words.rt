@@ -1,8 +1,8 @@
 // One line of a request file in words.
-ghost use Rattle.std.specs.Prelude.{◌≡◌, ◌++◌, Some};
+ghost use Rattle.std.specs.Prelude.{Some};
 ghost use Rattle.request_words.specs.Words.{request_words, answer_words, line_words};
 
-use crate::hex::{HexByte, HexTime};
+use crate::hex::Hex;
 use frames::faults::ReadFault;
 use frames::request::Request;
 use std::fmt;
@@ -24,27 +24,27 @@ impl fmt::Display for RequestWords {
                 write!(
                     f,
                     "open time-kind={} device={} start={}",
-                    HexByte(time_kind),
-                    HexByte(device),
-                    HexTime(start)
+                    Hex::from(time_kind),
+                    Hex::from(device),
+                    Hex::from(start)
                 )
             }
             Request::Arm { number, soft, hard } => {
                 write!(
                     f,
                     "arm number={number} soft={} hard={}",
-                    HexTime(soft),
-                    HexTime(hard)
+                    Hex::from(soft),
+                    Hex::from(hard)
                 )
             }
             Request::Cancel { number } => write!(f, "cancel number={number}"),
-            Request::Advance { to } => write!(f, "advance to={}", HexTime(to)),
+            Request::Advance { to } => write!(f, "advance to={}", Hex::from(to)),
             Request::Close => write!(f, "close"),
             Request::ArmByPurpose { number, purpose } => {
                 write!(
                     f,
                     "arm-by-purpose number={number} purpose={}",
-                    HexByte(purpose)
+                    Hex::from(purpose)
                 )
             }
         }
@@ -62,10 +62,9 @@ impl fmt::Display for LineWords {
     ghost output = { λ x. Some (line_words x.number x.answer) };
 
     fn fmt<W: fmt::Write>(&self, f: &mut fmt::Formatter<W>) -> fmt::Result {
-        let number = self.number;
         match self.answer {
-            Ok(request) => write!(f, "{number}: {}", RequestWords(request)),
-            Err(fault) => write!(f, "{number}: refused {}", HexByte(fault.number())),
+            Ok(request) => write!(f, "{}: {}", self.number, RequestWords(request)),
+            Err(fault) => write!(f, "{}: refused {}", self.number, Hex::from(fault.number())),
         }
     }
 }
