@@ -19,7 +19,7 @@ module _ {A : Type 0} (plain : A → ℕ) (t t' : Tally) (log : List (Firing A))
       let last : Frame = answer (t.lines + 1) 0 w f in
       let line : Frame → List ℕ = λ x. report_line (frame_payload x) in
       let all : text fs ++ line last ≡ text (fs ++ (last ∷ [])) = flat_map_more line [] fs last in
-      let both = placed_next (text fs) (line last) old mid new at r.written p q in
+      let both = placed_next (text fs) (line last) old mid new 0 at r.written (omega arith) p q in
       record {
         answered = a;
         tally = c;

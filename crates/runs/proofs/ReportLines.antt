@@ -9,7 +9,9 @@ use Rattle.frames.specs.Reading.{big_endian, with_check}
 use Rattle.frames.specs.Writing.{Wrote}
 use Rattle.frames.proofs.Fields.{listed}
 use Rattle.frames.proofs.HexWrites.{length_line}
+use Rattle.runs.specs.declared.report.Report.{Report}
 use Rattle.runs.specs.Report.{report_line, Placed}
+use Rattle.runs.specs.Reports.{Extends}
 
 -- a frame written from a place to the end of the buffer, and a line feed behind it
 fed : (old line : List ℕ) (at end : ℕ) → at + length line ≡ end → end < length old →
@@ -49,8 +51,8 @@ placed payload old part new at (Ok k) h e w =
     }
 
 -- the same of an equal payload
-pub placed_as : (p q old new : List ℕ) (at end : ℕ) → p ≡ q → Placed (report_line q) at old new end → Placed (report_line p) at old new end
-placed_as p q old new at end e h = subst (λ (t : List ℕ). Placed (report_line t) at old new end) (sym e) h
+pub extends_as : (p q : List ℕ) {old new : Report} → p ≡ q → Extends (report_line q) old new → Extends (report_line p) old new
+extends_as p q {old} {new} e h = subst (λ (t : List ℕ). Extends (report_line t) old new) (sym e) h
 
 -- two big_endian bytes, as the elements of an array that holds them
 pub two_bytes : (x : ℕ) (r : List ℕ) → r ≡ (x / 256 % 256) ∷ (x % 256) ∷ [] → big_endian 2 x ≡ listed r 0 2

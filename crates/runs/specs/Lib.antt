@@ -12,6 +12,7 @@ pub mod Refusals
 pub mod RefusedSample
 pub mod Replies
 pub mod Report
+pub mod Reports
 pub mod Sample
 pub mod Steps
 pub mod Waiting

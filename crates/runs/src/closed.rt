@@ -6,7 +6,7 @@ ghost use Rattle.runs.specs.Waiting.{closed_line, TotalsBy};
 use crate::counts::Counts;
 use crate::faults::RunFault;
 use crate::replies::{Replied, ignore, refuse};
-use crate::report::put_totals;
+use crate::report::Report;
 
 #[derive(Drop)]
 pub struct ClosedRun {
@@ -29,7 +29,8 @@ impl ClosedRun {
             Ok(next) => next,
             Err(fault) => return ignore(self.counts, fault),
         };
-        let (counts, replied) = refuse(next, buffer, RunFault::NotNow);
+        let mut report = Report { buffer, at: 0 };
+        let (counts, replied) = refuse(next, &mut report, RunFault::NotNow);
         self.counts = counts;
         replied
     }
@@ -41,12 +42,8 @@ impl ClosedRun {
         if buffer.len() < 25 {
             return Err(RunFault::ShortBuffer);
         }
-        Ok(put_totals(
-            buffer,
-            0,
-            self.counts.wakes(),
-            self.counts.firings(),
-            self.pending,
-        ))
+        let mut report = Report { buffer, at: 0 };
+        report.add_totals(self.counts, self.pending);
+        Ok(report.at)
     }
 }

@@ -5,8 +5,8 @@ ghost use Rattle.runs.specs.Replies.{tally_of, heard, RepliedBy};
 
 use crate::counts::{Counts, NextLine};
 use crate::faults::RunFault;
-use crate::firings::put_firings;
 use crate::replies::{Replied, accept, refuse};
+use crate::report::Report;
 use queue_rules::firing::Firing;
 use times::Plain;
 
@@ -20,11 +20,12 @@ pub(crate) fn finish<T: Plain>(
     requires { FitsIn outcome (length log.now) (length buffer.old) }
     ensures { RepliedBy (heard (tally_of next.counts) tt (told T.Plain.plain outcome log.now)) (tally_of result.0) tt buffer.old buffer.new result.1 }
 {
+    let mut report = Report { buffer, at: 0 };
     match outcome {
         Ok(served) => {
-            let end = put_firings(buffer, &log[0..usize::from(served.1)]);
-            accept(next, buffer, end, served)
+            report.add_firings(&log[0..usize::from(served.1)]);
+            accept(next, &mut report, served)
         }
-        Err(fault) => refuse(next, buffer, fault),
+        Err(fault) => refuse(next, &mut report, fault),
     }
 }

@@ -6,7 +6,6 @@ pub mod closed;
 pub mod counts;
 pub mod faults;
 mod finishing;
-mod firings;
 pub mod kinds;
 mod laws;
 pub mod open;

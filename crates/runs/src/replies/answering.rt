@@ -1,12 +1,13 @@
-ghost use Rattle.std.specs.Prelude.{◌≡◌, ◌+◌, ◌≤◌, length, Ok};
+ghost use Rattle.std.specs.Prelude.{◌≡◌, ◌+◌, ◌≤◌, Ok};
 ghost use Rattle.runs.specs.Numbers.{run_number};
 ghost use Rattle.runs.specs.Replies.{tally_of, counting, refusing};
-ghost use Rattle.runs.specs.Report.{Placed, report_line, answer_payload};
+ghost use Rattle.runs.specs.Report.{report_line, answer_payload};
+ghost use Rattle.runs.specs.Reports.{room, Extends};
 
 use super::{Refusal, Replied};
 use crate::counts::{Counts, NextLine};
 use crate::faults::RunFault;
-use crate::report::put_answer;
+use crate::report::Report;
 
 // Neither counts a line nor answers it in the buffer.
 pub(crate) fn ignore(counts: Counts, fault: RunFault) -> Replied
@@ -22,38 +23,39 @@ pub(crate) fn ignore(counts: Counts, fault: RunFault) -> Replied
     }
 }
 
-// Counts a line that is refused, and writes its answer.
-pub(crate) fn refuse(next: NextLine, buffer: &mut [u8], fault: RunFault) -> (Counts, Replied)
-    requires { 23 ≤ length buffer.old }
+// Counts a line that is refused, and adds its answer to the report.
+pub(crate) fn refuse(next: NextLine, report: &mut Report<'_>, fault: RunFault) -> (Counts, Replied)
+    requires { 23 ≤ room report.old }
     ensures answer { result.1.answer ≡ refusing (tally_of next.counts) fault }
     ensures counted { tally_of result.0 ≡ counting (tally_of next.counts) 0 0 }
-    ensures placed { Placed (report_line (answer_payload (next.counts.lines + 1) (run_number fault) 0 0)) 0 buffer.old buffer.new result.1.written }
+    ensures added { Extends (report_line (answer_payload (next.counts.lines + 1) (run_number fault) 0 0)) report.old report.new }
+    ensures written { result.1.written ≡ report.new.at }
 {
     let line = next.number();
-    let written = put_answer(buffer, 0, line, fault.number(), (0, 0));
+    report.add_answer(line, fault.number(), (0, 0));
     let replied = Replied {
-        written,
+        written: report.at,
         answer: Err(Refusal { line, fault }),
     };
     (next.counted((0, 0)), replied)
 }
 
-// Counts a line that is carried out, and writes its answer behind what is written already; `served` are its wake-ups and its firings.
+// Counts a line that is carried out, and adds its answer to the report; `served` are its wake-ups and its firings.
 pub(crate) fn accept(
     next: NextLine,
-    buffer: &mut [u8],
-    at: usize,
+    report: &mut Report<'_>,
     served: (u16, u16),
 ) -> (Counts, Replied)
     requires small { (served.0 ≤ 4096) × (served.1 ≤ 4096) }
-    requires room { at + 23 ≤ length buffer.old }
+    requires room { 23 ≤ room report.old }
     ensures answer { result.1.answer ≡ Ok tt }
     ensures counted { tally_of result.0 ≡ counting (tally_of next.counts) served.0 served.1 }
-    ensures placed { Placed (report_line (answer_payload (next.counts.lines + 1) 0 served.0 served.1)) at buffer.old buffer.new result.1.written }
+    ensures added { Extends (report_line (answer_payload (next.counts.lines + 1) 0 served.0 served.1)) report.old report.new }
+    ensures written { result.1.written ≡ report.new.at }
 {
-    let written = put_answer(buffer, at, next.number(), 0, served);
+    report.add_answer(next.number(), 0, served);
     let replied = Replied {
-        written,
+        written: report.at,
         answer: Ok(()),
     };
     (next.counted(served), replied)

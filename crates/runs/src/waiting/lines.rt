@@ -8,6 +8,7 @@ use crate::faults::RunFault;
 use crate::opening::{Opening, opening_of};
 use crate::reading::read_request;
 use crate::replies::{Replied, accept, ignore, refuse};
+use crate::report::Report;
 
 impl WaitingRun {
     // What a line opens the run with, or why it opens nothing.
@@ -30,12 +31,13 @@ impl WaitingRun {
             Ok(next) => next,
             Err(fault) => return ignore(self.counts, fault),
         };
+        let mut report = Report { buffer, at: 0 };
         let (counts, replied) = match self.hear(line) {
             Ok(opening) => {
                 self.accepted = Some(opening);
-                accept(next, buffer, 0, (0, 0))
+                accept(next, &mut report, (0, 0))
             }
-            Err(fault) => refuse(next, buffer, fault),
+            Err(fault) => refuse(next, &mut report, fault),
         };
         self.counts = counts;
         replied

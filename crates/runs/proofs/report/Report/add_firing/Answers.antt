@@ -5,8 +5,8 @@ use Rattle.frames.proofs.Fields.{listed}
 use Rattle.frames.proofs.WriteBack.{four_bytes, eight_bytes}
 use Rattle.runs.specs.Report.{firing_payload}
 use Rattle.runs.proofs.FiringLines.{payload_as}
-use Rattle.runs.proofs.ReportLines.{placed_as}
-use Rattle.runs.proofs.report.put_firing.Goals as goal
+use Rattle.runs.proofs.ReportLines.{extends_as}
+use Rattle.runs.proofs.report.Report.add_firing.Goals as goal
 
 -- the byte of a mark
 mark_byte : (mark : Bool) → from_bool mark ≡ cond mark 1 0
@@ -25,12 +25,12 @@ returns g c =
     let s = eight_bytes soft _ c.to_be_bytes-3.ensures in
     let h = eight_bytes hard _ c.to_be_bytes-4.ensures in
     let head : List ℕ = listed c.to_be_bytes.result 0 4 ++ (mark ∷ []) in
-    placed_as _ _ c.args.buffer.now _ c.args.at _
+    extends_as _ _
     (payload_as number _ _ _ _ _ _ _ _ (c.from-mark.ensures ∙ mark_byte c.args.entry.now.mark) c.to_plain.ensures c.to_plain-2.ensures c.to_plain-3.ensures)
-    (placed_as (firing_payload number mark wake soft hard) _ c.args.buffer.now _ c.args.at _
+    (extends_as (firing_payload number mark wake soft hard) _
     (ap (λ (t : List ℕ). 0x91 ∷ t ++ (mark ∷ []) ++ big_endian 8 wake ++ big_endian 8 soft ++ big_endian 8 hard) n
     ∙ ap (λ (t : List ℕ). 0x91 ∷ head ++ t ++ big_endian 8 soft ++ big_endian 8 hard) w
     ∙ ap (λ (t : List ℕ). 0x91 ∷ head ++ listed c.to_be_bytes-2.result 0 8 ++ t ++ big_endian 8 hard) s
     ∙ ap (λ (t : List ℕ). 0x91 ∷ head ++ listed c.to_be_bytes-2.result 0 8 ++ listed c.to_be_bytes-3.result 0 8 ++ t) h
     )
-    c.put_line.ensures)
+    c.add.ensures)
