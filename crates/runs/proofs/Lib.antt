@@ -6,7 +6,5 @@ pub mod Hearings
 pub mod Replying
 pub mod Refusing
 pub mod ReportLines
-pub mod Telling
-pub mod Windows
 pub mod LineReplies
 pub mod LineEvents

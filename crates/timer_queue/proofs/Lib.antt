@@ -9,7 +9,6 @@ pub mod Logging
 pub mod Outcomes
 pub mod Popping
 pub mod Refused
-pub mod Ringing
 pub mod ServingLoop
 pub mod Tops
 pub mod Typed
