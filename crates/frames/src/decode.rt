@@ -32,6 +32,7 @@ fn unhex(line: &[u8]) -> Result<FrameBytes, LineFault>
 {
     let (pairs, _) = line.as_chunks::<2>();
     let mut bytes = [0; 64];
+    // By place: of what a `zip` over `iter_mut` writes, a proof knows nothing after the loop.
     for (i, [high, low]) in pairs.iter().enumerate() {
         bytes[i] = byte(*high, *low)?;
     }

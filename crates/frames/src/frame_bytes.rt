@@ -1,8 +1,8 @@
 // The bytes of one frame, check byte included, in fixed memory.
 ghost use Rattle.std.specs.Prelude.{◌≡◌, ◌≤◌, take};
 
-// At most 64 bytes, as many as the longest line spells. A buffer and its length, since a
-// `FrameBytes` is `Copy` and the kit's `ArrayVec` is not.
+// At most 64 bytes, as many as the longest line spells.
+// A buffer and its length, since a `FrameBytes` is `Copy` and the kit's `ArrayVec` is not.
 #[derive(Clone, Copy)]
 pub struct FrameBytes {
     pub(crate) bytes: [u8; 64],

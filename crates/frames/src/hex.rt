@@ -22,6 +22,7 @@ pub fn digit(sign: u8) -> Result<u8, LineFault>
 pub fn sign(number: u8) -> u8
     ensures { result ≡ character (number % 16) }
 {
+    // By hand: `char::from_digit` has small letters for the digits above nine.
     let digit = number % 16;
     if digit < 10 {
         b'0' + digit

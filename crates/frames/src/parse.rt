@@ -8,6 +8,7 @@ use crate::faults::FrameFault;
 use crate::frame_bytes::FrameBytes;
 use crate::request::Request;
 
+// A function for each kind: the fields differ, and a slice pattern has each by its name.
 fn open(rest: &[u8]) -> Result<Request, FrameFault>
     ensures { result ≡ asked_as open_kind (1 ∷ rest.now) }
 {

@@ -24,6 +24,7 @@ fn put_all(buffer: &mut [u8], bytes: &[u8])
     requires { 2 * length bytes.now ≤ length buffer.old }
     ensures { buffer.new ≡ hex bytes.now ++ drop (2 * length bytes.now) buffer.old }
 {
+    // By place: of what a `zip` over `iter_mut` writes, a proof knows nothing after the loop.
     for (i, byte) in bytes.iter().enumerate() {
         put(buffer, 2 * i, *byte);
     }
@@ -66,6 +67,7 @@ pub fn hex_time(time: u64) -> [u8; 16]
     hex_text(&time.to_be_bytes())
 }
 
+// A function for each kind: the fields differ, and no array's length can be computed from theirs.
 fn write_open(time_kind: u8, device: u8, start: u64, buffer: &mut [u8]) -> Result<usize, WriteFault>
     ensures { Written (Open time_kind device start) buffer.old buffer.new result }
 {
