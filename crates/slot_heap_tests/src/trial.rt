@@ -45,8 +45,8 @@ impl<T: Plain, const N: usize> Trial<T, N> {
         let hard = soft + ((dice >> 16) & 0x1f);
         let timer = Timer {
             number,
-            soft: T::from_plain(u64::from(soft)).ok().ok_or("no such time")?,
-            hard: T::from_plain(u64::from(hard)).ok().ok_or("no such time")?,
+            soft: T::from_plain(u64::from(soft))?,
+            hard: T::from_plain(u64::from(hard))?,
         };
         assert!(rt; (number as usize) < self.entries.len());
         self.entries[number as usize] = Some(Entry { soft, hard });
