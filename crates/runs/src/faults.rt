@@ -32,6 +32,7 @@ impl RunFault {
         ensures { result ≡ run_number self }
     {
         match self {
+            // a fault of a layer below keeps its number; a case that holds one can have none of its own
             RunFault::Line(fault) => fault.number(),
             RunFault::Frame(fault) => fault.number(),
             RunFault::Time(fault) => fault.number(),
@@ -48,6 +49,7 @@ impl RunFault {
     }
 }
 
+// By hand, since a derived `From` promises nothing of the case that it makes.
 impl From<LineFault> for RunFault {
     ghost from_gives = { λ fault r. r ≡ Line fault };
 

@@ -15,7 +15,7 @@ use times::Plain;
 
 mod lines;
 
-// `closing` says that a close frame was accepted.
+// `closing` says that a close frame was accepted. It is no type of its own: a line to a closing run is answered by the same call.
 #[derive(Drop)]
 pub struct OpenRun<T> {
     counts: Counts,

@@ -23,7 +23,7 @@ pub(crate) fn closes<T: Plain>(step: Step<T>) -> bool
     matches!(step, Step::Close)
 }
 
-// Answers the wake-ups and the firings of the call; the firings are logged from the start of the log.
+// Queue, alarm and log come one by one, as the caller lends them with each line. Answers the wake-ups and the firings of the call; the firings are logged from the start of the log.
 pub(crate) fn perform<T: Plain, A: Alarm<T>>(
     queue: &mut TimerQueue<'_, T>,
     alarm: &mut A,

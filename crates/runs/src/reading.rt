@@ -7,7 +7,8 @@ use frames::decode::decode;
 use frames::parse::parse;
 use frames::request::Request;
 
-// What a line asks for; a fault of the line or of the frame is carried up unaltered.
+// What a line asks for; a fault of the line or of the frame is carried up unaltered. The same two steps as a request's own reading, but each
+// fault goes into the run's without one that joins them.
 pub(crate) fn read_request(line: &[u8]) -> Result<Request, RunFault>
     ensures { result ≡ request_of line.now }
 {

@@ -59,6 +59,7 @@ impl<T: Measured> AlarmDevice<T> for LowBitMatcher<T> {
         self.low = None;
     }
 
+    // As the comparator passes. One body for both would be given how to start anew and how to go on: no plainer than these lines.
     fn pass(&mut self, t: T) -> Result<Passage, AlarmFault> {
         match ring_before(self.clock, self.due(), t)? {
             Some(ring) => {

@@ -48,7 +48,7 @@ fn next_in(piece: &mut Piece, splitter: &mut LineSplitter) -> Option<Line> {
     taken.line
 }
 
-// Reads a piece more; false at the end of the input.
+// Reads a piece more; false at the end of the input: there is nothing else to answer.
 fn refill(piece: &mut Piece, input: &mut Stdin) -> io::Result<bool> {
     let end = input.read(&mut piece.bytes)?;
     piece.at = 0;
@@ -116,10 +116,10 @@ impl Desk {
 
     // Writes the totals that a closed run gives.
     pub(crate) fn put_totals(&mut self, run: &ClosedRun) -> io::Result<()> {
-        match run.totals(&mut self.reply) {
-            Ok(written) => self.output.write_all(&self.reply[0..written]),
-            Err(_) => Ok(()),
+        if let Ok(written) = run.totals(&mut self.reply) {
+            self.output.write_all(&self.reply[0..written])?;
         }
+        Ok(())
     }
 
     pub(crate) fn flush(&mut self) -> io::Result<()> {
