@@ -5,5 +5,4 @@ pub mod Logs
 pub mod Queues
 pub mod Rings
 pub mod Services
-pub mod Slots
 pub mod Views

@@ -1,6 +1,5 @@
 // The wake-ups of an advance: while the alarm rings on the way, the ripe timers fire, and the alarm is set anew.
 ghost use Rattle.std.specs.Prelude.{◌≡◌, ◌+◌, ◌≤◌, length};
-ghost use Rattle.slot_heaps.specs.Pending.{Standing};
 ghost use Rattle.key_heaps.specs.Sifts.{BothHeaped};
 ghost use Rattle.timer_queue.specs.Inners.{held_timers, Spared};
 ghost use Rattle.timer_queue.specs.Services.{CountedAll, Ready, ServedAll};
@@ -14,10 +13,8 @@ use times::Time;
 impl<'a, T: Time> Inner<'a, T> {
     // Advances the alarm to t, and answers how many wake-ups there were. The timers of each are logged behind those of the one before.
     pub(crate) fn serve<A: Alarm<T>>(&mut self, alarm: &mut A, t: T, log: &mut [Firing<T>]) -> u16
-        requires standing { Standing self.old.pending self.old.slots.now }
-        requires room { self.old.pending ≤ length log.old }
+        requires { self.old.pending ≤ length log.old }
         ensures spared { Spared self.old self.new }
-        ensures standing { Standing self.new.pending self.new.slots.now }
         ensures fewer { self.new.pending ≤ self.old.pending }
         ensures few_wakes { result + self.new.pending ≤ self.old.pending }
         ensures held { length (held_timers self.new) + self.old.pending ≡ length (held_timers self.old) + self.new.pending }

@@ -13,6 +13,7 @@ use crate::queue::{Inner, TimerQueue};
 use alarms::Alarm;
 use queue_rules::fault::QueueFault;
 use queue_rules::firing::Firing;
+use slot_heaps::layout::lay_out;
 use slot_heaps::slots::{Slot, usable};
 use slot_heaps::timer::Timer;
 use times::Time;
@@ -41,13 +42,14 @@ impl<'a, T: Time> TimerQueue<'a, T> {
     {
         let count = usize::from(usable(slots.len()));
         let (slots, spare) = slots.split_at_mut(count);
-        let mut inner = Inner {
-            slots,
-            spare,
-            pending: 0,
-        };
-        inner.clear();
-        TimerQueue { inner }
+        lay_out(slots);
+        TimerQueue {
+            inner: Inner {
+                slots,
+                spare,
+                pending: 0,
+            },
+        }
     }
 
     // Nothing is pending, and the alarm is not due: a list of calls begins.
@@ -87,8 +89,7 @@ impl<'a, T: Time> TimerQueue<'a, T> {
         ensures spared { Spared self.old.inner self.new.inner }
     {
         let slot = self.check_cancel(alarm, number)?;
-        let left = self.inner.pending - 1;
-        self.inner.leave(slot, left);
+        self.inner.leave(slot);
         aim(alarm, self.least());
         Ok(())
     }

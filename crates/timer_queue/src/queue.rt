@@ -1,38 +1,31 @@
 // A queue of one-shot timers over lent slots. The first 4,096 slots, or all if there are fewer, are usable.
-ghost use Rattle.std.specs.Prelude.{◌≡◌, ◌+◌, ◌≤◌, false, length};
+ghost use Rattle.std.specs.Prelude.{◌≡◌, ◌+◌, false, length};
 ghost use Rattle.std.specs.List.{AllByRecursion};
 ghost use Rattle.std.proofs.Props.{props};
 ghost use Rattle.key_heaps.specs.Sifts.{Heaped};
-ghost use Rattle.slot_heaps.specs.Pending.{by_hard, by_soft, listed, pending as pending_slots};
+ghost use Rattle.slot_heaps.specs.Pending.{by_hard, by_soft, listed, Standing};
 ghost use Rattle.queue_rules.specs.Calls.{usable_of};
 ghost use Rattle.queue_rules.specs.Timers.{Distinct, Distinct-prop};
-ghost use Rattle.timer_queue.specs.Slots.{SlotsFound, PlacesFound};
 
 use slot_heaps::slots::Slot;
 use times::Time;
 
 // What the queue is made of: the usable slots, those past them, which are never written, and how many timers are pending.
-// The facts about it are kept by the queue, which lends it to the functions that do the work.
+// Places and slots of each heap point at each other, and both heaps hold the same slots.
 #[derive(Drop)]
 pub struct Inner<'a, T> {
     pub(crate) slots: &'a mut [Slot<T>],
     pub(crate) spare: &'a mut [Slot<T>],
     pub(crate) pending: u16,
+    ghost standing: { Standing pending slots.now },
 }
 
-// Places and slots of each heap point at each other, both heaps hold the same slots and are in order, no number is pending twice,
-// and no soft time is after its hard time.
+// Each pending slot has a timer, both heaps are in order, no number is pending twice, and no soft time is after its hard time.
 #[derive(Drop)]
 pub struct TimerQueue<'a, T: Time> {
     pub(crate) inner: Inner<'a, T>,
     ghost counted: { length inner.slots.now ≡ usable_of (length inner.slots.now + length inner.spare.now) },
-    ghost few: { inner.pending ≤ length inner.slots.now },
-    ghost hard_slots: { SlotsFound by_hard inner.slots.now },
-    ghost hard_places: { PlacesFound by_hard inner.slots.now },
-    ghost soft_slots: { SlotsFound by_soft inner.slots.now },
-    ghost soft_places: { PlacesFound by_soft inner.slots.now },
     ghost held: { length (listed inner.pending inner.slots.now) ≡ inner.pending },
-    ghost both: { pending_slots by_hard inner.pending inner.slots.now ≡ pending_slots by_soft inner.pending inner.slots.now },
     ghost hard_order: { Heaped T.Time.before (λ x. x.hard) by_hard inner.slots.now inner.pending },
     ghost soft_order: { Heaped T.Time.before (λ x. x.soft) by_soft inner.slots.now inner.pending },
     ghost distinct: { Distinct (listed inner.pending inner.slots.now) } by { Distinct-prop (listed inner.pending inner.slots.now) },

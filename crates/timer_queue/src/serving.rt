@@ -1,6 +1,5 @@
 // A wake-up: the ripe timers leave the heaps in the order of the log.
 ghost use Rattle.std.specs.Prelude.{◌≡◌, ◌+◌, ◌≤◌, length, Some};
-ghost use Rattle.slot_heaps.specs.Pending.{Standing};
 ghost use Rattle.key_heaps.specs.Sifts.{BothHeaped};
 ghost use Rattle.timer_queue.specs.Firings.{Fired};
 ghost use Rattle.timer_queue.specs.Inners.{held_timers, Spared};
@@ -9,7 +8,6 @@ ghost use Rattle.queue_rules.specs.WakeUps.{entry};
 
 use crate::queue::Inner;
 use queue_rules::firing::Firing;
-use slot_heaps::pending::remove;
 use slot_heaps::timer::Timer;
 use times::Time;
 
@@ -30,10 +28,8 @@ fn entry_of<T: Time>(timer: Timer<T>, wake: T, forcing: u32) -> Firing<T>
 impl<'a, T: Time> Inner<'a, T> {
     // Fires every timer whose soft time is not after the wake time, and logs them from the start of the log.
     pub(crate) fn fire(&mut self, wake: T, forcing: u32, log: &mut [Firing<T>])
-        requires standing { Standing self.old.pending self.old.slots.now }
-        requires room { self.old.pending ≤ length log.old }
+        requires { self.old.pending ≤ length log.old }
         ensures spared { Spared self.old self.new }
-        ensures standing { Standing self.new.pending self.new.slots.now }
         ensures fewer { self.new.pending ≤ self.old.pending }
         ensures held { length (held_timers self.new) + self.old.pending ≡ length (held_timers self.old) + self.new.pending }
         ensures ordered { BothHeaped T.Time.before self.old.pending self.old.slots.now → BothHeaped T.Time.before self.new.pending self.new.slots.now }
@@ -46,14 +42,12 @@ impl<'a, T: Time> Inner<'a, T> {
             if wake.before(first.soft) {
                 break;
             }
-            self.pending -= 1;
-            *entry = entry_of(remove(self.slots, slot, self.pending), wake, forcing);
+            *entry = entry_of(self.leave(slot), wake, forcing);
         }
     }
 
     // The least pending hard time.
     pub(crate) fn least(&self) -> Option<T>
-        requires { Standing self.now.pending self.now.slots.now }
         ensures { BothHeaped T.Time.before self.now.pending self.now.slots.now → result ≡ least_hard T.Time.before (held_timers self.now) }
     {
         self.first_by_hard().map(|(_, first)| first.hard)

@@ -1,5 +1,4 @@
 use Rattle.std.proofs.Common.{◌≡◌, ◌+◌, length}
-use Rattle.slot_heaps.specs.Pending.{Standing}
 use Rattle.key_heaps.specs.Sifts.{BothHeaped}
 use Rattle.queue_rules.specs.Timers.{Distinct}
 use Rattle.timer_queue.specs.Inners.{held_timers, Spared}
@@ -8,8 +7,7 @@ use Rattle.timer_queue.proofs.queue.Inner.fire.Given as goal
 
 abbrev pub invariant-loop-entry : goal.invariant-loop-entry
 invariant-loop-entry g l =
-    Standing l.self.pending l.self.slots.now
-    × (l.entry-index + l.self.pending ≡ l.fn.self.pending)
+    (l.entry-index + l.self.pending ≡ l.fn.self.pending)
     × (length (held_timers l.self) + l.fn.self.pending ≡ length (held_timers l.fn.self) + l.self.pending)
     × (BothHeaped g.T.Time.before l.fn.self.pending l.fn.self.slots.now → BothHeaped g.T.Time.before l.self.pending l.self.slots.now)
     × (BothHeaped g.T.Time.before l.fn.self.pending l.fn.self.slots.now → Distinct (held_timers l.fn.self) →

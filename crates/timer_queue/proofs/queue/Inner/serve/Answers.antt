@@ -7,7 +7,6 @@ use Rattle.timer_queue.proofs.queue.Inner.serve.Goals as goal
 
 pub loop-t-init : goal.loop-t-init
 loop-t-init g c = (
-  c.requires.standing,
   omega arith,
   refl,
   (λ h. h),
@@ -19,13 +18,12 @@ pub loop-t-preserved : goal.loop-t-preserved
 loop-t-preserved g c =
     let inv = c.loop-t.invariant in
     let f = c.fire.ensures in (
-      f.standing,
-      omega (arith, inv.1, f.fewer, c.if-self-left.false),
-      omega (arith, inv.2, f.held),
-      (λ h. f.ordered (inv.3 h)),
+      omega (arith, inv.0, f.fewer, c.if-self-left.false),
+      omega (arith, inv.1, f.held),
+      (λ h. f.ordered (inv.2 h)),
       (λ r.
-          let s = inv.4 r in
-          let heap = inv.3 r.heaped in
+          let s = inv.3 r in
+          let heap = inv.2 r.heaped in
           let top = c.in-Some.ensures.2 heap.0 in
           let rung = c.loop-t-test.ensures s.clock in
           let split = c.split_at_mut-unlogged.ensures in
@@ -34,29 +32,29 @@ loop-t-preserved g c =
           let least = c.least.ensures (f.ordered heap) in
           let due = c.aim.ensures.due (subst (NotPast g.T.Time.before (g.A.AlarmDevice.clock c.rings.new.alarm)) (sym least) ahead) ∙ least in
           wake_serves g.T.Time.before g.met.T.Time.ordered c.args.t (held_timers c.args.self.now) c.args.log.now c.loop-t.wakes c.loop-t.log (held_timers c.loop-t.self) _ _ _ _ c.in-Some.forcing s rung top _ _ _ fired _ _
-          (omega (arith, inv.2, r.held, s.count)) (omega (arith, r.held)) c.aim.ensures.clock due),
-      record { usable = f.spared.usable ∙ inv.5.usable; spare = f.spared.spare ∙ inv.5.spare },
+          (omega (arith, inv.1, r.held, s.count)) (omega (arith, r.held)) c.aim.ensures.clock due),
+      record { usable = f.spared.usable ∙ inv.4.usable; spare = f.spared.spare ∙ inv.4.spare },
     )
 
 pub returns-after-loop-t-clause-served : goal.returns-after-loop-t-clause-served
-returns-after-loop-t-clause-served g c = λ r. let s = c.loop-t.invariant.4 r in serve_ends g.T.Time.before g.met.T.Time.ordered c.args.t (held_timers c.args.self.now) c.args.log.now c.loop-t.wakes c.loop-t.log (held_timers c.loop-t.self) _ _ _ _ s (c.loop-t-test.ensures s.clock)
+returns-after-loop-t-clause-served g c = λ r. let s = c.loop-t.invariant.3 r in serve_ends g.T.Time.before g.met.T.Time.ordered c.args.t (held_timers c.args.self.now) c.args.log.now c.loop-t.wakes c.loop-t.log (held_timers c.loop-t.self) _ _ _ _ s (c.loop-t-test.ensures s.clock)
 
 pub returns-after-loop-t-clause-counted : goal.returns-after-loop-t-clause-counted
-returns-after-loop-t-clause-counted g c = λ r. let s = c.loop-t.invariant.4 r in serve_counts g.T.Time.before g.met.T.Time.ordered c.args.t (held_timers c.args.self.now) c.args.log.now c.loop-t.wakes c.loop-t.log (held_timers c.loop-t.self) _ _ _ _ s (c.loop-t-test.ensures s.clock)
+returns-after-loop-t-clause-counted g c = λ r. let s = c.loop-t.invariant.3 r in serve_counts g.T.Time.before g.met.T.Time.ordered c.args.t (held_timers c.args.self.now) c.args.log.now c.loop-t.wakes c.loop-t.log (held_timers c.loop-t.self) _ _ _ _ s (c.loop-t-test.ensures s.clock)
 
 -- the alarm cannot ring while nothing is pending
 pub returns-in_default-clause-served : goal.returns-in_default-clause-served
 returns-in_default-clause-served g c = λ r.
-    let s = c.loop-t.invariant.4 r in
+    let s = c.loop-t.invariant.3 r in
     absurd (none_rings g.T.Time.before g.met.T.Time.ordered c.args.t (held_timers c.args.self.now) c.args.log.now c.loop-t.wakes c.loop-t.log (held_timers c.loop-t.self) _ _ _ _ s (c.loop-t-test.ensures s.clock) (listed_none c.loop-t.self.pending c.loop-t.self.slots.now c.in_default.ensures))
 
 pub returns-in_default-clause-counted : goal.returns-in_default-clause-counted
 returns-in_default-clause-counted g c = λ r.
-    let s = c.loop-t.invariant.4 r in
+    let s = c.loop-t.invariant.3 r in
     absurd (none_rings g.T.Time.before g.met.T.Time.ordered c.args.t (held_timers c.args.self.now) c.args.log.now c.loop-t.wakes c.loop-t.log (held_timers c.loop-t.self) _ _ _ _ s (c.loop-t-test.ensures s.clock) (listed_none c.loop-t.self.pending c.loop-t.self.slots.now c.in_default.ensures))
 
 pub returns-then-self-left-clause-ordered : goal.returns-then-self-left-clause-ordered
-returns-then-self-left-clause-ordered g c = λ h. c.fire.ensures.ordered (c.loop-t.invariant.3 h)
+returns-then-self-left-clause-ordered g c = λ h. c.fire.ensures.ordered (c.loop-t.invariant.2 h)
 
 -- nor can a wake-up fire nothing
 pub returns-then-self-left-clause-served : goal.returns-then-self-left-clause-served
@@ -64,8 +62,8 @@ returns-then-self-left-clause-served g c = λ r.
     let inv = c.loop-t.invariant in
     let f = c.fire.ensures in
     let split = c.split_at_mut-unlogged.ensures in
-    let s = inv.4 r in
-    let heap = inv.3 r.heaped in
+    let s = inv.3 r in
+    let heap = inv.2 r.heaped in
     let fired = fired_behind g.T.Time.before c.in-Some.forcing.hard c.in-Some.forcing.number _ _ _ c.loop-t.log _ _ _ split.front split.back (f.fired heap s.distinct) in
     let fires = wake_fires g.T.Time.before g.met.T.Time.ordered c.args.t (held_timers c.args.self.now) c.args.log.now c.loop-t.wakes c.loop-t.log (held_timers c.loop-t.self) _ _ _ _ c.in-Some.forcing s (c.loop-t-test.ensures s.clock) (c.in-Some.ensures.2 heap.0) _ _ _ fired in
     absurd (omega (arith, fires, f.held, c.if-self-left.true))
@@ -75,8 +73,8 @@ returns-then-self-left-clause-counted g c = λ r.
     let inv = c.loop-t.invariant in
     let f = c.fire.ensures in
     let split = c.split_at_mut-unlogged.ensures in
-    let s = inv.4 r in
-    let heap = inv.3 r.heaped in
+    let s = inv.3 r in
+    let heap = inv.2 r.heaped in
     let fired = fired_behind g.T.Time.before c.in-Some.forcing.hard c.in-Some.forcing.number _ _ _ c.loop-t.log _ _ _ split.front split.back (f.fired heap s.distinct) in
     let fires = wake_fires g.T.Time.before g.met.T.Time.ordered c.args.t (held_timers c.args.self.now) c.args.log.now c.loop-t.wakes c.loop-t.log (held_timers c.loop-t.self) _ _ _ _ c.in-Some.forcing s (c.loop-t-test.ensures s.clock) (c.in-Some.ensures.2 heap.0) _ _ _ fired in
     absurd (omega (arith, fires, f.held, c.if-self-left.true))

@@ -1,5 +1,4 @@
 use Rattle.std.proofs.Common.{◌≡◌, ◌+◌, ◌≤◌, length}
-use Rattle.slot_heaps.specs.Pending.{Standing}
 use Rattle.key_heaps.specs.Sifts.{BothHeaped}
 use Rattle.timer_queue.specs.Inners.{held_timers, Spared}
 use Rattle.timer_queue.specs.Services.{Ready}
@@ -8,8 +7,7 @@ use Rattle.timer_queue.proofs.queue.Inner.serve.Given as goal
 
 abbrev pub invariant-loop-t : goal.invariant-loop-t
 invariant-loop-t g l =
-    Standing l.self.pending l.self.slots.now
-    × (l.wakes + l.self.pending ≤ l.initial.self.pending)
+    (l.wakes + l.self.pending ≤ l.initial.self.pending)
     × (length (held_timers l.self) + l.initial.self.pending ≡ length (held_timers l.initial.self) + l.self.pending)
     × (BothHeaped g.T.Time.before l.initial.self.pending l.initial.self.slots.now → BothHeaped g.T.Time.before l.self.pending l.self.slots.now)
     × (Ready g.T.Time.before l.initial.self.pending l.initial.self.slots.now (g.A.AlarmDevice.clock l.initial.alarm) (g.A.AlarmDevice.due l.initial.alarm) l.t →

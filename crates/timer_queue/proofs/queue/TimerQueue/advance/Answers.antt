@@ -17,7 +17,7 @@ use Rattle.queue_rules.proofs.Numbering.{distinct_rearranged}
 use Rattle.queue_rules.proofs.Rearranged.{all_rearranged}
 use Rattle.timer_queue.proofs.Refused.{advance_away}
 use Rattle.queue_rules.proofs.Sorting.{sorted_rearranged}
-use Rattle.timer_queue.proofs.Typed.{typed, counted_still}
+use Rattle.timer_queue.proofs.Typed.{counted_still}
 use Rattle.timer_queue.proofs.queue.TimerQueue.advance.Goals as goal
 
 pub returns-in_err-check_advance-clause-done : goal.returns-in_err-check_advance-clause-done
@@ -62,9 +62,15 @@ invariant_of-self g c =
       clock = not_back before o u xs (clock a) (due a) t (length old) free;
     } in
     let served : ServedAll before t xs ys n old new (clock a') (due a') = c.serve-wakes.ensures.served ready in
-    typed before j (counted_still q.inner j c.serve-wakes.ensures.spared q.counted) c.serve-wakes.ensures.standing
-    (let held = q.held in omega (arith, c.serve-wakes.ensures.held, held))
-    (c.serve-wakes.ensures.ordered (q.hard_order, q.soft_order)) served.distinct served.proper
+    let heap = c.serve-wakes.ensures.ordered (q.hard_order, q.soft_order) in
+    record {
+      counted = counted_still q.inner j c.serve-wakes.ensures.spared q.counted;
+      held = let held = q.held in omega (arith, c.serve-wakes.ensures.held, held);
+      hard_order = heap.0;
+      soft_order = heap.1;
+      distinct = served.distinct;
+      proper = served.proper;
+    }
 
 pub returns-clause-done : goal.returns-clause-done
 returns-clause-done g c =

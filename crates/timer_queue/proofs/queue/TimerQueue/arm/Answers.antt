@@ -2,13 +2,12 @@ use Rattle.std.proofs.Common.{◌≡◌, ℕ, List, length, is_ok, None, Ok, Err
 use Rattle.alarms.specs.Meaning.{NotPast}
 use Rattle.std.proofs.lemmas.Result.{err_from_is_err_and}
 use Rattle.heap_links.specs.declared.timer.Timer.{Timer}
-use Rattle.key_heaps.specs.Sifts.{BothHeaped}
 use Rattle.queue_rules.specs.declared.fault.QueueFault.{QueueFault}
 use Rattle.timer_queue.specs.declared.queue.Inner.{Inner}
 use Rattle.queue_rules.specs.Calls.{State, arming}
 use Rattle.timer_queue.specs.Doing.{state_with}
 use Rattle.queue_rules.specs.Events.{armed}
-use Rattle.slot_heaps.specs.Pending.{listed, Inserted, Standing}
+use Rattle.slot_heaps.specs.Pending.{Inserted}
 use Rattle.timer_queue.specs.Inners.{held_timers}
 use Rattle.queue_rules.specs.Timers.{timed, least_hard}
 use Rattle.timer_queue.specs.Views.{view, arm_refusal}
@@ -17,7 +16,7 @@ use Rattle.timer_queue.proofs.Entering.{entered, entered_ahead, entered_distinct
 use Rattle.timer_queue.proofs.Inserting.{inserted_length}
 use Rattle.timer_queue.proofs.Outcomes.{arm_turned}
 use Rattle.timer_queue.proofs.Refused.{turned_away}
-use Rattle.timer_queue.proofs.Typed.{typed, counted_still}
+use Rattle.timer_queue.proofs.Typed.{counted_still}
 use Rattle.timer_queue.proofs.queue.TimerQueue.arm.Goals as goal
 
 pub returns-in_err-check_arm-clause-done : goal.returns-in_err-check_arm-clause-done
@@ -41,16 +40,19 @@ invariant_of-self g c =
     let a : g.row.A.Denot = c.args.alarm.now in
     let i : Inner g.row.T.Denot = q.inner in
     let j : Inner g.row.T.Denot = c.enter.new.self in
-    let more = sym c.enter.ensures.pending in
     let x : Timer g.row.T.Denot = timed c.args.number c.args.soft c.args.hard in
     let free : arm_refusal before (length i.slots.now) (held_timers i) (g.A.AlarmDevice.clock a) (g.A.AlarmDevice.due a) x ≡ None = sym c.in_ok-check_arm.ensures.answer in
     let ahead = c.check_arm.ensures.ahead in
-    let list : Inserted x (held_timers i) (held_timers j) = subst (λ (n : ℕ). Inserted x (held_timers i) (listed n j.slots.now)) more c.enter.ensures.listed in
-    typed before j (counted_still i j c.enter.ensures.spared q.counted) (subst (λ (n : ℕ). Standing n j.slots.now) more c.enter.ensures.standing)
-    (inserted_length _ (held_timers i) (held_timers j) list ∙ omega (arith, q.held, c.enter.ensures.pending))
-    (subst (λ (n : ℕ). BothHeaped before n j.slots.now) more (c.enter.ensures.ordered (q.hard_order, q.soft_order)))
-    (entered_distinct before o (length i.slots.now) (held_timers i) (held_timers j) (g.A.AlarmDevice.clock a) (g.A.AlarmDevice.due a) x free ahead list q.distinct q.proper)
-    (entered_proper before o (length i.slots.now) (held_timers i) (held_timers j) (g.A.AlarmDevice.clock a) (g.A.AlarmDevice.due a) x free ahead list q.distinct q.proper)
+    let list : Inserted x (held_timers i) (held_timers j) = c.enter.ensures.listed in
+    let heap = c.enter.ensures.ordered (q.hard_order, q.soft_order) in
+    record {
+      counted = counted_still i j c.enter.ensures.spared q.counted;
+      held = inserted_length _ (held_timers i) (held_timers j) list ∙ omega (arith, q.held, c.enter.ensures.pending);
+      hard_order = heap.0;
+      soft_order = heap.1;
+      distinct = entered_distinct before o (length i.slots.now) (held_timers i) (held_timers j) (g.A.AlarmDevice.clock a) (g.A.AlarmDevice.due a) x free ahead list q.distinct q.proper;
+      proper = entered_proper before o (length i.slots.now) (held_timers i) (held_timers j) (g.A.AlarmDevice.clock a) (g.A.AlarmDevice.due a) x free ahead list q.distinct q.proper;
+    }
 
 pub returns-clause-done : goal.returns-clause-done
 returns-clause-done g c =
@@ -67,7 +69,7 @@ returns-clause-done g c =
     let ys : List (Timer g.row.T.Denot) = held_timers j in
     let free : arm_refusal before u xs (clock a) (due a) x ≡ None = sym c.in_ok-check_arm.ensures.answer in
     let ahead = c.check_arm.ensures.ahead in
-    let list = subst (λ (n : ℕ). Inserted x xs (listed n j.slots.now)) (sym c.enter.ensures.pending) c.enter.ensures.listed in
+    let list = c.enter.ensures.listed in
     let least : c.least.result ≡ least_hard before ys = c.least.ensures in
     let not_past = entered_ahead before o u xs ys (clock a) (due a) x free ahead list q.distinct q.proper in
     let at_least : due c.aim.new.alarm ≡ least_hard before ys = c.aim.ensures.due (subst (NotPast before (clock a)) (sym least) not_past) ∙ least in

@@ -1,23 +1,22 @@
-use Rattle.std.proofs.Common.{◌≡◌, ℕ, ◌+◌, ◌-◌, List, length, is_ok, None, Ok, Err, sym, ap, ◌∙◌, subst, arith}
+use Rattle.std.proofs.Common.{◌≡◌, ℕ, List, length, is_ok, None, Ok, Err, sym, ap, ◌∙◌, subst, arith}
 use Rattle.std.proofs.lemmas.Result.{err_from_is_err_and}
 use Rattle.alarms.specs.Meaning.{NotPast}
 use Rattle.heap_links.specs.declared.timer.Timer.{Timer}
-use Rattle.key_heaps.specs.Sifts.{BothHeaped}
 use Rattle.queue_rules.specs.declared.fault.QueueFault.{QueueFault}
 use Rattle.timer_queue.specs.declared.queue.Inner.{Inner}
 use Rattle.queue_rules.specs.Calls.{State, cancelling}
 use Rattle.timer_queue.specs.Doing.{state_with}
 use Rattle.queue_rules.specs.Events.{cancelled}
-use Rattle.slot_heaps.specs.Pending.{Inserted, Standing}
+use Rattle.slot_heaps.specs.Pending.{Inserted}
 use Rattle.timer_queue.specs.Inners.{held_timers}
 use Rattle.queue_rules.specs.Timers.{least_hard}
 use Rattle.timer_queue.specs.Views.{view, cancel_refusal}
 use Rattle.timer_queue.proofs.Carried.{cancel_carries}
 use Rattle.timer_queue.proofs.Inserting.{inserted_length}
-use Rattle.timer_queue.proofs.Leaving.{listed_after, left, left_ahead, left_distinct, left_proper}
+use Rattle.timer_queue.proofs.Leaving.{left, left_ahead, left_distinct, left_proper}
 use Rattle.timer_queue.proofs.Outcomes.{cancel_turned}
 use Rattle.timer_queue.proofs.Refused.{turned_away}
-use Rattle.timer_queue.proofs.Typed.{typed, counted_still}
+use Rattle.timer_queue.proofs.Typed.{counted_still}
 use Rattle.timer_queue.proofs.queue.TimerQueue.cancel.Goals as goal
 
 pub returns-in_err-slot-clause-done : goal.returns-in_err-slot-clause-done
@@ -43,24 +42,24 @@ invariant_of-self g c =
     let i : Inner g.row.T.Denot = q.inner in
     let j : Inner g.row.T.Denot = c.leave.new.self in
     let x : Timer g.row.T.Denot = c.leave.result in
-    let l : ℕ = i.pending - 1 in
-    let less = sym c.leave.ensures.pending in
     let hit = c.in_ok-slot.ensures.slot in
-    let one : l + 1 ≡ i.pending = omega (arith, hit.1.pending) in
     let found : cancel_refusal before (length i.slots.now) (held_timers i) (g.A.AlarmDevice.clock a) (g.A.AlarmDevice.due a) n ≡ None = sym c.in_ok-slot.ensures.answer in
     let ahead = c.check_cancel.ensures.ahead in
     let at = hit.1.timer in
     let value = c.leave.ensures.value in
     let name = hit.2 in
     let named : x.number ≡ n = cc in
-    let list : Inserted x (held_timers j) (held_timers i) = listed_after i.slots.now j.slots.now l i.pending j.pending x one less c.leave.ensures.listed in
+    let list : Inserted x (held_timers j) (held_timers i) = c.leave.ensures.listed in
     let m = inserted_length _ (held_timers j) (held_timers i) list in
-    let heap : BothHeaped before (l + 1) i.slots.now = subst (λ (n : ℕ). BothHeaped before n i.slots.now) (sym one) (q.hard_order, q.soft_order) in
-    typed before j (counted_still i j c.leave.ensures.spared q.counted) (subst (λ (n : ℕ). Standing n j.slots.now) less c.leave.ensures.standing)
-    (omega (arith, m, one, q.held, c.leave.ensures.pending))
-    (subst (λ (n : ℕ). BothHeaped before n j.slots.now) less (c.leave.ensures.ordered heap))
-    (left_distinct before o (length i.slots.now) (held_timers i) (held_timers j) (g.A.AlarmDevice.clock a) (g.A.AlarmDevice.due a) n x found ahead list named q.distinct q.proper)
-    (left_proper before o (length i.slots.now) (held_timers i) (held_timers j) (g.A.AlarmDevice.clock a) (g.A.AlarmDevice.due a) n x found ahead list named q.distinct q.proper)
+    let heap = c.leave.ensures.ordered (q.hard_order, q.soft_order) in
+    record {
+      counted = counted_still i j c.leave.ensures.spared q.counted;
+      held = omega (arith, m, q.held, c.leave.ensures.pending);
+      hard_order = heap.0;
+      soft_order = heap.1;
+      distinct = left_distinct before o (length i.slots.now) (held_timers i) (held_timers j) (g.A.AlarmDevice.clock a) (g.A.AlarmDevice.due a) n x found ahead list named q.distinct q.proper;
+      proper = left_proper before o (length i.slots.now) (held_timers i) (held_timers j) (g.A.AlarmDevice.clock a) (g.A.AlarmDevice.due a) n x found ahead list named q.distinct q.proper;
+    }
 
 pub returns-clause-done : goal.returns-clause-done
 returns-clause-done g c =
@@ -74,15 +73,13 @@ returns-clause-done g c =
     let j : Inner g.row.T.Denot = c.leave.new.self in
     let n : ℕ = c.args.number in
     let x : Timer g.row.T.Denot = c.leave.result in
-    let p : ℕ = q.inner.pending in
     let u : ℕ = length q.inner.slots.now in
     let xs : List (Timer g.row.T.Denot) = held_timers q.inner in
     let ys : List (Timer g.row.T.Denot) = held_timers j in
     let found : cancel_refusal before u xs (clock a) (due a) n ≡ None = sym c.in_ok-slot.ensures.answer in
     let ahead = c.check_cancel.ensures.ahead in
     let hit = c.in_ok-slot.ensures.slot in
-    let one : (p - 1) + 1 ≡ p = omega (arith, hit.1.pending) in
-    let list : Inserted x ys xs = listed_after q.inner.slots.now j.slots.now (p - 1) p j.pending x one (sym c.leave.ensures.pending) c.leave.ensures.listed in
+    let list : Inserted x ys xs = c.leave.ensures.listed in
     let at = hit.1.timer in
     let value = c.leave.ensures.value in
     let name = hit.2 in
