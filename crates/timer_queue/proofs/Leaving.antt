@@ -1,9 +1,8 @@
 -- A timer that passes the tests and leaves the slots is cancelled.
-use Rattle.std.proofs.Common.{◌≡◌, ℕ, ◌+◌, Bool, false, List, [], ◌∷◌, None, Ok, Option, ap, ◌∙◌, subst}
+use Rattle.std.proofs.Common.{◌≡◌, ℕ, Bool, false, List, [], ◌∷◌, None, Ok, Option, ap, ◌∙◌}
 use Rattle.alarms.specs.Meaning.{NotPast}
 use Rattle.heap_links.specs.declared.timer.Timer.{Timer}
-use Rattle.heap_links.specs.declared.slots.Slot.{Slot}
-use Rattle.slot_heaps.specs.Pending.{listed, Inserted}
+use Rattle.slot_heaps.specs.Pending.{Inserted}
 use Rattle.times.specs.Order.{StrictOrder}
 use Rattle.queue_rules.specs.Calls.{cancelling}
 use Rattle.timer_queue.specs.Doing.{gives}
@@ -16,11 +15,6 @@ use Rattle.queue_rules.proofs.Numbering.{distinct_rearranged}
 use Rattle.timer_queue.proofs.Outcomes.{cancel_taken, all_ahead}
 use Rattle.queue_rules.proofs.Rearranged.{all_rearranged}
 use Rattle.queue_rules.proofs.Waking.{Proper}
-
--- the pending timers of slots with one less, by the number of those pending before and after
-pub listed_after : {A : Type 0} (ss ts : List (Slot A)) (l p k : ℕ) (x : Timer A) → l + 1 ≡ p → l ≡ k → Inserted x (listed l ts) (listed (l + 1) ss) → Inserted x (listed k ts) (listed p ss)
-listed_after ss ts l p k x one less e =
-    subst (λ (n : ℕ). Inserted x (listed n ts) (listed p ss)) less (subst (λ (n : ℕ). Inserted x (listed l ts) (listed n ss)) one e)
 
 module _ {A : Type 0} (before : A → A → Bool) (o : StrictOrder before) (u : ℕ) (xs ys : List (Timer A)) (c : A) (d : Option A) (n : ℕ) (x : Timer A)
     (found : cancel_refusal before u xs c d n ≡ None) (ahead : NotPast before c d) (taken : Inserted x ys xs) (named : x.number ≡ n)
