@@ -8,3 +8,4 @@ pub mod Refusing
 pub mod ReportLines
 pub mod LineReplies
 pub mod LineEvents
+pub mod Windows
