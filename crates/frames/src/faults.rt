@@ -53,6 +53,7 @@ impl ReadFault {
         ensures { result ≡ read_number self }
     {
         match self {
+            // a case that holds a fault can have no number of its own
             ReadFault::Line(fault) => fault.number(),
             ReadFault::Frame(fault) => fault.number(),
         }
@@ -67,6 +68,7 @@ impl WriteFault {
     }
 }
 
+// By hand, since a derived `From` promises nothing of the case that it makes.
 impl From<LineFault> for ReadFault {
     ghost from_gives = { λ fault r. r ≡ Line fault };
 

@@ -1,4 +1,5 @@
-// A slot holds a timer and its links in the two heaps. Slots never move: a heap moves links.
+// A slot holds a timer and its links in the two heaps. Slots never move: a heap moves links. A link is an index: the memory is lent by the
+// owner, and there is no heap to point into.
 ghost use Rattle.std.specs.Prelude.{◌≡◌, min};
 ghost use Rattle.heap_links.specs.Vacant.{vacant as a_vacant};
 

@@ -132,6 +132,7 @@ impl Desk {
 fn main(rt: HostRuntime) -> io::Result<()> {
     let mut desk = Desk::new(rt);
     let mut piece = [0; 65536];
+    // A count, since a loop has to be seen to end, and an input need not.
     for _ in 0..u64::MAX {
         let count = desk.read_piece(&mut piece)?;
         if count == 0 {

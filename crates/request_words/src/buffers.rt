@@ -9,6 +9,7 @@ use frames::faults::ReadFault;
 use frames::request::Request;
 use frames::write::{hex_byte, hex_time};
 
+// Each asks for the room of the longest request: how much there is changes with every text, and is no fact of the type.
 impl Sheet<'_> {
     ghost use Rattle.request_words.specs.Sheets.{room, Puts};
 

@@ -1,4 +1,5 @@
-// The pending timers: a timer goes into a free slot and into both heaps, and out again.
+// The pending timers: a timer goes into a free slot and into both heaps, and out again. The slots and their count come as two: the owner's
+// type holds both, and these are the steps between which its fact about them is broken.
 ghost use Rattle.std.specs.Prelude.{◌≡◌, ◌+◌, ◌<◌, ◌≤◌, true, false, length, Some, slice_set};
 ghost use Rattle.std.specs.List.{slice_get};
 ghost use Rattle.heap_links.specs.Columns.{timers, slot_at, place_of};

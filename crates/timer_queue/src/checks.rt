@@ -1,4 +1,5 @@
-// What each call tests before it does anything, in the order of the refusals.
+// What each call tests before it does anything, in the order of the refusals. Each hands on that the due time is not past: the alarm's
+// answer promises it, and no type of ours holds the caller's alarm.
 ghost use Rattle.std.specs.Prelude.{◌≡◌, ◌<◌, ◌≤◌, length, IfOk, Some, None, OnOk};
 ghost use Rattle.alarms.specs.Meaning.{NotPast};
 ghost use Rattle.slot_heaps.specs.Firsts.{Found};

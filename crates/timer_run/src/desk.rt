@@ -73,6 +73,7 @@ impl Desk {
 
     // The next line of the input, or none at its end.
     fn next_line(&mut self) -> io::Result<Option<Line>> {
+        // A count, since a loop has to be seen to end, and an input need not.
         for _ in 0..u64::MAX {
             let Some(splitter) = &mut self.splitter else {
                 break;
@@ -106,6 +107,7 @@ impl Desk {
     ) -> anyhow::Result<()>
         requires { (state : F) (x : _) → F.pre state x }
     {
+        // A count, since a loop has to be seen to end, and an input need not.
         for _ in 0..u64::MAX {
             if !self.answer(run)? || done(run) {
                 break;

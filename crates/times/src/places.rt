@@ -1,4 +1,5 @@
-// A measured time has a place, a whole number; a tick is one place, 10 ms.
+// A measured time has a place, a whole number; a tick is one place, 10 ms. That `before` is the order of the places is promised by each
+// function and is no law: so the project has it, and whoever calls one is told.
 ghost use Rattle.std.specs.Prelude.{◌≡◌, ℕ, Option};
 ghost use Rattle.times.specs.Places.{Agrees, Places, capped, later};
 
