@@ -4,11 +4,13 @@
 use Rattle.std.specs.Prelude.{◌≡◌, List, length}
 use Rattle.heap_links.specs.declared.timer.Timer.{Timer}
 use Rattle.slot_heaps.specs.Pending.{listed}
+use Rattle.times.specs.declared.order.Time.{Ghosts}
 use Rattle.timer_queue.specs.declared.queue.Inner.{Inner}
 
-abbrev pub held_timers : {A : Type 0} → Inner A → List (Timer A)
-held_timers i = listed i.pending i.slots.now
+module _ {A : Type 0} {G : Ghosts A} where
+  abbrev pub held_timers : Inner A G → List (Timer A)
+  held_timers i = listed i.pending i.slots.now
 
-pub record Spared {A : Type 0} (i i' : Inner A) : Type 0 where
-  pub usable : length i'.slots.now ≡ length i.slots.now
-  pub spare : i'.spare.now ≡ i.spare.now
+  pub record Spared (i i' : Inner A G) : Type 0 where
+    pub usable : length i'.slots.now ≡ length i.slots.now
+    pub spare : i'.spare.now ≡ i.spare.now

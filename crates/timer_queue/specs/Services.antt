@@ -2,9 +2,6 @@
 --     ServedAll ..    what an advance to t over the timers xs left: its counts, its log, the timers ys, the alarm's clock and due time
 use Rattle.std.specs.Prelude.{◌≡◌, ℕ, ◌+◌, Bool, false, List, length, Option}
 use Rattle.std.specs.List.{AllByRecursion}
-use Rattle.heap_links.specs.declared.slots.Slot.{Slot}
-use Rattle.slot_heaps.specs.Pending.{listed}
-use Rattle.key_heaps.specs.Sifts.{BothHeaped}
 use Rattle.heap_links.specs.declared.timer.Timer.{Timer}
 use Rattle.queue_rules.specs.declared.firing.Firing.{Firing}
 use Rattle.queue_rules.specs.Lists.{Rearranged}
@@ -25,11 +22,10 @@ pub record ServedAll {A : Type 0} (before : A → A → Bool) (t : A) (xs ys : L
 abbrev pub CountedAll : {A : Type 0} → (A → A → Bool) → A → List (Timer A) → List (Timer A) → Type 0
 CountedAll before t xs ys = length ys + length (walk before t xs).entries ≡ length xs
 
--- n timers are pending in sound slots, the alarm is due as it should be, and t is not before its clock
-pub record Ready {A : Type 0} (before : A → A → Bool) (n : ℕ) (ss : List (Slot A)) (c : A) (d : Option A) (t : A) : Type 0 where
-  pub heaped : BothHeaped before n ss
-  pub distinct : Distinct (listed n ss)
-  pub proper : AllByRecursion (λ x. before x.hard x.soft ≡ false) (listed n ss)
-  pub held : length (listed n ss) ≡ n
-  pub due : d ≡ least_hard before (listed n ss)
+-- xs are n timers as a queue keeps them, the alarm is due as it should be, and t is not before its clock
+pub record Ready {A : Type 0} (before : A → A → Bool) (n : ℕ) (xs : List (Timer A)) (c : A) (d : Option A) (t : A) : Type 0 where
+  pub distinct : Distinct xs
+  pub proper : AllByRecursion (λ x. before x.hard x.soft ≡ false) xs
+  pub held : length xs ≡ n
+  pub due : d ≡ least_hard before xs
   pub clock : before t c ≡ false

@@ -1,6 +1,5 @@
 // The wake-ups of an advance: while the alarm rings on the way, the ripe timers fire, and the alarm is set anew.
 ghost use Rattle.std.specs.Prelude.{◌≡◌, ◌+◌, ◌≤◌, length};
-ghost use Rattle.key_heaps.specs.Sifts.{BothHeaped};
 ghost use Rattle.timer_queue.specs.Inners.{held_timers, Spared};
 ghost use Rattle.timer_queue.specs.Services.{CountedAll, Ready, ServedAll};
 
@@ -18,9 +17,8 @@ impl<'a, T: Time> Inner<'a, T> {
         ensures fewer { self.new.pending ≤ self.old.pending }
         ensures few_wakes { result + self.new.pending ≤ self.old.pending }
         ensures held { length (held_timers self.new) + self.old.pending ≡ length (held_timers self.old) + self.new.pending }
-        ensures ordered { BothHeaped T.Time.before self.old.pending self.old.slots.now → BothHeaped T.Time.before self.new.pending self.new.slots.now }
-        ensures served { Ready T.Time.before self.old.pending self.old.slots.now (A.AlarmDevice.clock alarm.old) (A.AlarmDevice.due alarm.old) t → ServedAll T.Time.before t (held_timers self.old) (held_timers self.new) result log.old log.new (A.AlarmDevice.clock alarm.new) (A.AlarmDevice.due alarm.new) }
-        ensures counted { Ready T.Time.before self.old.pending self.old.slots.now (A.AlarmDevice.clock alarm.old) (A.AlarmDevice.due alarm.old) t → CountedAll T.Time.before t (held_timers self.old) (held_timers self.new) }
+        ensures served { Ready T.Time.before self.old.pending (held_timers self.old) (A.AlarmDevice.clock alarm.old) (A.AlarmDevice.due alarm.old) t → ServedAll T.Time.before t (held_timers self.old) (held_timers self.new) result log.old log.new (A.AlarmDevice.clock alarm.new) (A.AlarmDevice.due alarm.new) }
+        ensures counted { Ready T.Time.before self.old.pending (held_timers self.old) (A.AlarmDevice.clock alarm.old) (A.AlarmDevice.due alarm.old) t → CountedAll T.Time.before t (held_timers self.old) (held_timers self.new) }
     {
         let pending = self.pending;
         let mut wakes = 0;

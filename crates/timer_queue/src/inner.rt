@@ -4,7 +4,6 @@ ghost use Rattle.std.specs.List.{slice_get};
 ghost use Rattle.heap_links.specs.Columns.{timers, place_of};
 ghost use Rattle.slot_heaps.specs.Firsts.{Top};
 ghost use Rattle.slot_heaps.specs.Pending.{by_hard, by_soft, Inserted};
-ghost use Rattle.key_heaps.specs.Sifts.{BothHeaped};
 ghost use Rattle.timer_queue.specs.Inners.{held_timers, Spared};
 
 use crate::queue::Inner;
@@ -34,7 +33,6 @@ impl<'a, T: Time> Inner<'a, T> {
         ensures pending { self.new.pending ≡ 0 }
         ensures spared { Spared self.old self.new }
         ensures listed { held_timers self.new ≡ [] }
-        ensures ordered { BothHeaped T.Time.before self.new.pending self.new.slots.now }
     {
         lay_out(self.slots);
         self.pending = 0;
@@ -46,7 +44,6 @@ impl<'a, T: Time> Inner<'a, T> {
         ensures pending { self.new.pending ≡ self.old.pending + 1 }
         ensures spared { Spared self.old self.new }
         ensures listed { Inserted timer (held_timers self.old) (held_timers self.new) }
-        ensures ordered { BothHeaped T.Time.before self.old.pending self.old.slots.now → BothHeaped T.Time.before self.new.pending self.new.slots.now }
     {
         insert(self.slots, self.pending, timer);
         self.pending += 1;
@@ -60,7 +57,6 @@ impl<'a, T: Time> Inner<'a, T> {
         ensures spared { Spared self.old self.new }
         ensures value { slice_get (timers self.old.slots.now) slot ≡ Some result }
         ensures listed { Inserted result (held_timers self.new) (held_timers self.old) }
-        ensures ordered { BothHeaped T.Time.before self.old.pending self.old.slots.now → BothHeaped T.Time.before self.new.pending self.new.slots.now }
     {
         let timer = remove(self.slots, slot, self.pending - 1);
         self.pending -= 1;

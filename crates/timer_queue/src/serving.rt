@@ -1,6 +1,5 @@
 // A wake-up: the ripe timers leave the heaps in the order of the log.
 ghost use Rattle.std.specs.Prelude.{◌≡◌, ◌+◌, ◌≤◌, length, Some};
-ghost use Rattle.key_heaps.specs.Sifts.{BothHeaped};
 ghost use Rattle.timer_queue.specs.Firings.{Fired};
 ghost use Rattle.timer_queue.specs.Inners.{held_timers, Spared};
 ghost use Rattle.queue_rules.specs.Timers.{Distinct, least_hard};
@@ -32,8 +31,7 @@ impl<'a, T: Time> Inner<'a, T> {
         ensures spared { Spared self.old self.new }
         ensures fewer { self.new.pending ≤ self.old.pending }
         ensures held { length (held_timers self.new) + self.old.pending ≡ length (held_timers self.old) + self.new.pending }
-        ensures ordered { BothHeaped T.Time.before self.old.pending self.old.slots.now → BothHeaped T.Time.before self.new.pending self.new.slots.now }
-        ensures fired { BothHeaped T.Time.before self.old.pending self.old.slots.now → Distinct (held_timers self.old) → Fired T.Time.before wake forcing (held_timers self.old) (held_timers self.new) 0 log.old log.new }
+        ensures fired { Distinct (held_timers self.old) → Fired T.Time.before wake forcing (held_timers self.old) (held_timers self.new) 0 log.old log.new }
     {
         for entry in log {
             let Some((slot, first)) = self.first_by_soft() else {
@@ -48,7 +46,7 @@ impl<'a, T: Time> Inner<'a, T> {
 
     // The least pending hard time.
     pub(crate) fn least(&self) -> Option<T>
-        ensures { BothHeaped T.Time.before self.now.pending self.now.slots.now → result ≡ least_hard T.Time.before (held_timers self.now) }
+        ensures { result ≡ least_hard T.Time.before (held_timers self.now) }
     {
         self.first_by_hard().map(|(_, first)| first.hard)
     }

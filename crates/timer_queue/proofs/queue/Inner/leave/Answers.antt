@@ -2,7 +2,9 @@ use Rattle.std.proofs.Common.{◌≡◌, ℕ, ◌+◌, ◌-◌, sym, subst, arit
 use Rattle.key_heaps.specs.Sifts.{BothHeaped}
 use Rattle.timer_queue.proofs.queue.Inner.leave.Goals as goal
 
-pub returns-clause-ordered : goal.returns-clause-ordered
-returns-clause-ordered g c = λ h.
-    let one : (c.args.self.now.pending - 1) + 1 ≡ c.args.self.now.pending = omega (arith, c.requires.there) in
-    c.remove-timer.ensures.ordered (subst (λ (n : ℕ). BothHeaped g.T.Time.before n c.args.self.now.slots.now) (sym one) h)
+pub invariant_of-self : goal.invariant_of-self
+invariant_of-self g c =
+    let i = c.args.self.now in
+    let one : (i.pending - 1) + 1 ≡ i.pending = omega (arith, c.requires.there) in
+    let heaps = c.remove-timer.ensures.ordered (subst (λ (n : ℕ). BothHeaped g.T.Time.before n i.slots.now) (sym one) (i.hard_order, i.soft_order)) in
+    record { standing = c.remove-timer.ensures.standing; hard_order = heaps.0; soft_order = heaps.1 }

@@ -9,7 +9,6 @@ pub loop-t-init : goal.loop-t-init
 loop-t-init g c = (
   omega arith,
   refl,
-  (λ h. h),
   (λ r. serve_begins g.T.Time.before g.met.T.Time.ordered c.args.t _ c.args.log.now _ _ r.distinct r.proper r.clock r.due),
   record { usable = refl; spare = refl },
 )
@@ -20,41 +19,36 @@ loop-t-preserved g c =
     let f = c.fire.ensures in (
       omega (arith, inv.0, f.fewer, c.if-self-left.false),
       omega (arith, inv.1, f.held),
-      (λ h. f.ordered (inv.2 h)),
       (λ r.
-          let s = inv.3 r in
-          let heap = inv.2 r.heaped in
-          let top = c.in-Some.ensures.2 heap.0 in
+          let s = inv.2 r in
+          let top = c.in-Some.ensures.2 c.loop-t.self.hard_order in
           let rung = c.loop-t-test.ensures s.clock in
           let split = c.split_at_mut-unlogged.ensures in
-          let fired = fired_behind g.T.Time.before c.in-Some.forcing.hard c.in-Some.forcing.number _ _ _ c.loop-t.log _ _ _ split.front split.back (f.fired heap s.distinct) in
+          let fired = fired_behind g.T.Time.before c.in-Some.forcing.hard c.in-Some.forcing.number _ _ _ c.loop-t.log _ _ _ split.front split.back (f.fired s.distinct) in
           let ahead = wake_ahead g.T.Time.before g.met.T.Time.ordered c.args.t (held_timers c.args.self.now) c.args.log.now c.loop-t.wakes c.loop-t.log (held_timers c.loop-t.self) _ _ _ _ c.in-Some.forcing s rung top _ _ _ fired in
-          let least = c.least.ensures (f.ordered heap) in
+          let least = c.least.ensures in
           let due = c.aim.ensures.due (subst (NotPast g.T.Time.before (g.A.AlarmDevice.clock c.rings.new.alarm)) (sym least) ahead) ∙ least in
           wake_serves g.T.Time.before g.met.T.Time.ordered c.args.t (held_timers c.args.self.now) c.args.log.now c.loop-t.wakes c.loop-t.log (held_timers c.loop-t.self) _ _ _ _ c.in-Some.forcing s rung top _ _ _ fired _ _
           (omega (arith, inv.1, r.held, s.count)) (omega (arith, r.held)) c.aim.ensures.clock due),
-      record { usable = f.spared.usable ∙ inv.4.usable; spare = f.spared.spare ∙ inv.4.spare },
+      record { usable = f.spared.usable ∙ inv.3.usable; spare = f.spared.spare ∙ inv.3.spare },
     )
 
 pub returns-after-loop-t-clause-served : goal.returns-after-loop-t-clause-served
-returns-after-loop-t-clause-served g c = λ r. let s = c.loop-t.invariant.3 r in serve_ends g.T.Time.before g.met.T.Time.ordered c.args.t (held_timers c.args.self.now) c.args.log.now c.loop-t.wakes c.loop-t.log (held_timers c.loop-t.self) _ _ _ _ s (c.loop-t-test.ensures s.clock)
+returns-after-loop-t-clause-served g c = λ r. let s = c.loop-t.invariant.2 r in serve_ends g.T.Time.before g.met.T.Time.ordered c.args.t (held_timers c.args.self.now) c.args.log.now c.loop-t.wakes c.loop-t.log (held_timers c.loop-t.self) _ _ _ _ s (c.loop-t-test.ensures s.clock)
 
 pub returns-after-loop-t-clause-counted : goal.returns-after-loop-t-clause-counted
-returns-after-loop-t-clause-counted g c = λ r. let s = c.loop-t.invariant.3 r in serve_counts g.T.Time.before g.met.T.Time.ordered c.args.t (held_timers c.args.self.now) c.args.log.now c.loop-t.wakes c.loop-t.log (held_timers c.loop-t.self) _ _ _ _ s (c.loop-t-test.ensures s.clock)
+returns-after-loop-t-clause-counted g c = λ r. let s = c.loop-t.invariant.2 r in serve_counts g.T.Time.before g.met.T.Time.ordered c.args.t (held_timers c.args.self.now) c.args.log.now c.loop-t.wakes c.loop-t.log (held_timers c.loop-t.self) _ _ _ _ s (c.loop-t-test.ensures s.clock)
 
 -- the alarm cannot ring while nothing is pending
 pub returns-in_default-clause-served : goal.returns-in_default-clause-served
 returns-in_default-clause-served g c = λ r.
-    let s = c.loop-t.invariant.3 r in
+    let s = c.loop-t.invariant.2 r in
     absurd (none_rings g.T.Time.before g.met.T.Time.ordered c.args.t (held_timers c.args.self.now) c.args.log.now c.loop-t.wakes c.loop-t.log (held_timers c.loop-t.self) _ _ _ _ s (c.loop-t-test.ensures s.clock) (listed_none c.loop-t.self.pending c.loop-t.self.slots.now c.in_default.ensures))
 
 pub returns-in_default-clause-counted : goal.returns-in_default-clause-counted
 returns-in_default-clause-counted g c = λ r.
-    let s = c.loop-t.invariant.3 r in
+    let s = c.loop-t.invariant.2 r in
     absurd (none_rings g.T.Time.before g.met.T.Time.ordered c.args.t (held_timers c.args.self.now) c.args.log.now c.loop-t.wakes c.loop-t.log (held_timers c.loop-t.self) _ _ _ _ s (c.loop-t-test.ensures s.clock) (listed_none c.loop-t.self.pending c.loop-t.self.slots.now c.in_default.ensures))
-
-pub returns-then-self-left-clause-ordered : goal.returns-then-self-left-clause-ordered
-returns-then-self-left-clause-ordered g c = λ h. c.fire.ensures.ordered (c.loop-t.invariant.2 h)
 
 -- nor can a wake-up fire nothing
 pub returns-then-self-left-clause-served : goal.returns-then-self-left-clause-served
@@ -62,10 +56,9 @@ returns-then-self-left-clause-served g c = λ r.
     let inv = c.loop-t.invariant in
     let f = c.fire.ensures in
     let split = c.split_at_mut-unlogged.ensures in
-    let s = inv.3 r in
-    let heap = inv.2 r.heaped in
-    let fired = fired_behind g.T.Time.before c.in-Some.forcing.hard c.in-Some.forcing.number _ _ _ c.loop-t.log _ _ _ split.front split.back (f.fired heap s.distinct) in
-    let fires = wake_fires g.T.Time.before g.met.T.Time.ordered c.args.t (held_timers c.args.self.now) c.args.log.now c.loop-t.wakes c.loop-t.log (held_timers c.loop-t.self) _ _ _ _ c.in-Some.forcing s (c.loop-t-test.ensures s.clock) (c.in-Some.ensures.2 heap.0) _ _ _ fired in
+    let s = inv.2 r in
+    let fired = fired_behind g.T.Time.before c.in-Some.forcing.hard c.in-Some.forcing.number _ _ _ c.loop-t.log _ _ _ split.front split.back (f.fired s.distinct) in
+    let fires = wake_fires g.T.Time.before g.met.T.Time.ordered c.args.t (held_timers c.args.self.now) c.args.log.now c.loop-t.wakes c.loop-t.log (held_timers c.loop-t.self) _ _ _ _ c.in-Some.forcing s (c.loop-t-test.ensures s.clock) (c.in-Some.ensures.2 c.loop-t.self.hard_order) _ _ _ fired in
     absurd (omega (arith, fires, f.held, c.if-self-left.true))
 
 pub returns-then-self-left-clause-counted : goal.returns-then-self-left-clause-counted
@@ -73,8 +66,7 @@ returns-then-self-left-clause-counted g c = λ r.
     let inv = c.loop-t.invariant in
     let f = c.fire.ensures in
     let split = c.split_at_mut-unlogged.ensures in
-    let s = inv.3 r in
-    let heap = inv.2 r.heaped in
-    let fired = fired_behind g.T.Time.before c.in-Some.forcing.hard c.in-Some.forcing.number _ _ _ c.loop-t.log _ _ _ split.front split.back (f.fired heap s.distinct) in
-    let fires = wake_fires g.T.Time.before g.met.T.Time.ordered c.args.t (held_timers c.args.self.now) c.args.log.now c.loop-t.wakes c.loop-t.log (held_timers c.loop-t.self) _ _ _ _ c.in-Some.forcing s (c.loop-t-test.ensures s.clock) (c.in-Some.ensures.2 heap.0) _ _ _ fired in
+    let s = inv.2 r in
+    let fired = fired_behind g.T.Time.before c.in-Some.forcing.hard c.in-Some.forcing.number _ _ _ c.loop-t.log _ _ _ split.front split.back (f.fired s.distinct) in
+    let fires = wake_fires g.T.Time.before g.met.T.Time.ordered c.args.t (held_timers c.args.self.now) c.args.log.now c.loop-t.wakes c.loop-t.log (held_timers c.loop-t.self) _ _ _ _ c.in-Some.forcing s (c.loop-t-test.ensures s.clock) (c.in-Some.ensures.2 c.loop-t.self.hard_order) _ _ _ fired in
     absurd (omega (arith, fires, f.held, c.if-self-left.true))
