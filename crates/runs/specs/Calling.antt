@@ -65,4 +65,4 @@ module _ {A : Type 0} (k : Kind A) where
 pub record Started {S A : Type 0} {G : Ghosts A} (before : A → A → Bool) (clock : S → A) (due : S → Option A) (q q' : TimerQueue A G) (a a' : S) : Type 0 where
   pub timers : queue_timers q' ≡ []
   pub alarm : Clears clock due a a'
-  pub history : Lived before (length q.inner.slots.now) (clock a) [] (state_with clock due q' a')
+  pub history : Lived before (length q.timers.slots.now) (clock a) [] (state_with clock due q' a')

@@ -2,7 +2,7 @@
 ghost use Rattle.std.specs.Prelude.{◌≡◌, ◌≤◌, Bool, true, false, length, IfOk, OnOk};
 ghost use Rattle.queue_rules.specs.declared.firing.Firing.{Firing};
 ghost use Rattle.timer_queue.specs.Doing.{state_with};
-ghost use Rattle.timer_queue.specs.Inners.{Spared};
+ghost use Rattle.timer_queue.specs.Queues.{Spared};
 ghost use Rattle.timer_queue.specs.Queues.{queue_timers};
 ghost use Rattle.runs.specs.Calling.{opened_with, effect_left, Untouched};
 ghost use Rattle.runs.specs.Finishing.{told};
@@ -34,7 +34,7 @@ pub(crate) fn perform<T: Plain, A: Alarm<T>>(
     ensures left { OnOk result (opened_with A.AlarmDevice.clock A.AlarmDevice.due (closing_step step) queue.new alarm.new ≡ effect_left (carried_out (kind_of_time T.Plain) (length log.old) (state_with A.AlarmDevice.clock A.AlarmDevice.due queue.old alarm.old) step) (opened_with A.AlarmDevice.clock A.AlarmDevice.due false queue.old alarm.old)) }
     ensures few { IfOk result (λ n. (n.0 ≤ length (queue_timers queue.old)) × (n.1 ≤ length (queue_timers queue.old)) × (n.1 ≤ length log.old)) }
     ensures refused { Untouched result queue.old queue.new (A.AlarmDevice.clock alarm.old) (A.AlarmDevice.clock alarm.new) (A.AlarmDevice.due alarm.old) (A.AlarmDevice.due alarm.new) log.old log.new }
-    ensures spared { Spared queue.old.inner queue.new.inner }
+    ensures spared { Spared queue.old queue.new }
 {
     match step {
         Step::Arm(timer) => queue.arm(alarm, timer.number, timer.soft, timer.hard)?,

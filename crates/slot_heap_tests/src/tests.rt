@@ -1,5 +1,6 @@
 use crate::reference::{Entry, rank};
 use crate::trial::Trial;
+use slot_heaps::slots::Slot;
 use std::test::Fail;
 use times::*;
 
@@ -13,12 +14,14 @@ fn ranks_go_by_time_and_number(rt: HostRuntime) {
 
 #[test]
 fn firsts_are_least_at_ticks(rt: HostRuntime) -> Result<(), Fail> {
-    Trial::<Tick, 1>::new().play(&rt, 1)?;
-    Trial::<Tick, 40>::new().play(&rt, 2)
+    let mut slots = [Slot::vacant(Tick::last()); 40];
+    Trial::over(&mut slots[..1]).play(&rt, 1)?;
+    Trial::over(&mut slots).play(&rt, 2)
 }
 
 #[test]
 fn firsts_are_least_at_day_ticks(rt: HostRuntime) -> Result<(), Fail> {
-    Trial::<DayTick, 2>::new().play(&rt, 3)?;
-    Trial::<DayTick, 100>::new().play(&rt, 4)
+    let mut slots = [Slot::vacant(DayTick::last()); 100];
+    Trial::over(&mut slots[..2]).play(&rt, 3)?;
+    Trial::over(&mut slots).play(&rt, 4)
 }

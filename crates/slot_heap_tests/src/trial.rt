@@ -1,45 +1,37 @@
 // Inserts and removes on the heaps, each compared with the reference.
-ghost use Rattle.std.specs.Prelude.{◌<◌, ◌≤◌, IfSome};
+ghost use Rattle.std.specs.Prelude.{◌<◌, ◌≤◌, length, IfSome};
 ghost use Rattle.heap_links.specs.Columns.{place_of};
 ghost use Rattle.slot_heaps.specs.Firsts.{Holds};
-ghost use Rattle.slot_heaps.specs.Pending.{by_hard, Standing};
+ghost use Rattle.slot_heaps.specs.Pending.{by_hard};
 
 use crate::reference::{Entry, NUMBERS, next, rank, sorted_ranks};
-use slot_heaps::layout::lay_out;
-use slot_heaps::pending::{insert, remove};
-use slot_heaps::roots::{first_by_hard, first_by_soft};
-use slot_heaps::search::find;
+use slot_heaps::pending::PendingTimers;
 use slot_heaps::slots::Slot;
 use slot_heaps::timer::Timer;
 use std::process::Abort;
 use std::test::Fail;
 use times::Plain;
 
-// The heaps over slots of their own, and the timers that they are to hold, by number.
+// The heaps, and the timers that they are to hold, by number.
 #[derive(Drop)]
-pub(crate) struct Trial<T, const N: usize> {
-    slots: [Slot<T>; N],
-    pending: u16,
+pub(crate) struct Trial<'a, T: Plain> {
+    timers: PendingTimers<'a, T>,
     entries: [Option<Entry>; NUMBERS],
-    ghost standing: { Standing pending slots },
 }
 
-impl<T: Plain, const N: usize> Trial<T, N> {
-    pub(crate) fn new() -> Self
-        requires { N ≤ 4096 }
+impl<'a, T: Plain> Trial<'a, T> {
+    pub(crate) fn over(slots: &'a mut [Slot<T>]) -> Self
+        requires { length slots.old ≤ 4096 }
     {
-        let mut slots = [Slot::vacant(T::last()); N];
-        lay_out(&mut slots);
         Trial {
-            slots,
-            pending: 0,
+            timers: PendingTimers::over(slots),
             entries: [None; NUMBERS],
         }
     }
 
     // Inserts a timer of that number, with times from the dice.
     fn arm(&mut self, rt: &impl Abort, number: u32, dice: u32) -> Result<(), Fail>
-        requires { self.old.pending < N }
+        requires { self.old.timers.count < length self.old.timers.slots.now }
     {
         let soft = (dice >> 8) & 0x3f;
         let hard = soft + ((dice >> 16) & 0x1f);
@@ -50,18 +42,16 @@ impl<T: Plain, const N: usize> Trial<T, N> {
         };
         assert!(rt; (number as usize) < self.entries.len());
         self.entries[number as usize] = Some(Entry { soft, hard });
-        insert(&mut self.slots, self.pending, timer);
-        self.pending += 1;
+        self.timers.insert(timer);
         Ok(())
     }
 
     // Removes a slot; its timer is one that was pending.
     fn take(&mut self, rt: &impl Abort, slot: u16) -> Result<(), Fail>
-        requires within { slot < N }
-        requires there { place_of by_hard self.old.slots slot < self.old.pending }
+        requires within { slot < length self.old.timers.slots.now }
+        requires there { place_of by_hard self.old.timers.slots.now slot < self.old.timers.count }
     {
-        let timer = remove(&mut self.slots, slot, self.pending - 1);
-        self.pending -= 1;
+        let timer = self.timers.remove(slot);
         let number = timer.number as usize;
         assert!(rt; number < self.entries.len());
         let entry = self.entries[number].take();
@@ -71,7 +61,7 @@ impl<T: Plain, const N: usize> Trial<T, N> {
 
     // Removes the first timer of a heap, if there is one.
     fn pop(&mut self, rt: &impl Abort, first: Option<(u16, Timer<T>)>) -> Result<(), Fail>
-        requires { IfSome first (λ f. Holds self.old.pending self.old.slots f.0 f.1) }
+        requires { IfSome first (λ f. Holds self.old.timers.count self.old.timers.slots.now f.0 f.1) }
     {
         match first {
             Some((slot, _)) => self.take(rt, slot),
@@ -82,7 +72,7 @@ impl<T: Plain, const N: usize> Trial<T, N> {
     // Removes the timer of that number, if it is pending.
     fn cancel(&mut self, rt: &impl Abort, number: u32) -> Result<(), Fail> {
         assert!(rt; (number as usize) < self.entries.len());
-        let slot = find(&self.slots, self.pending, number);
+        let slot = self.timers.find(number);
         assert_eq!(rt; slot.is_some(), self.entries[number as usize].is_some());
         match slot {
             Some(slot) => self.take(rt, slot),
@@ -92,12 +82,12 @@ impl<T: Plain, const N: usize> Trial<T, N> {
 
     // One step of the sequence: an insert while there is room and the dice say so, or else a remove, by either heap or by number.
     fn step(&mut self, rt: &impl Abort, number: u32, dice: u32) -> Result<(), Fail> {
-        if usize::from(self.pending) < N && dice & 0x8000_0000 != 0 {
+        if self.timers.count() < self.timers.capacity() && dice & 0x8000_0000 != 0 {
             return self.arm(rt, number, dice);
         }
         let first = match dice & 3 {
-            0 => first_by_hard(&self.slots, self.pending),
-            1 => first_by_soft(&self.slots, self.pending),
+            0 => self.timers.first_by_hard(),
+            1 => self.timers.first_by_soft(),
             _ => return self.cancel(rt, (dice >> 4) % number.saturating_add(1)),
         };
         self.pop(rt, first)
@@ -125,8 +115,8 @@ impl<T: Plain, const N: usize> Trial<T, N> {
     }
 
     fn compare_both(&self, rt: &impl Abort) -> Result<(), Fail> {
-        self.compare(rt, first_by_hard(&self.slots, self.pending), |e| e.hard)?;
-        self.compare(rt, first_by_soft(&self.slots, self.pending), |e| e.soft)
+        self.compare(rt, self.timers.first_by_hard(), |e| e.hard)?;
+        self.compare(rt, self.timers.first_by_soft(), |e| e.soft)
     }
 
     // An insert or a remove for each number, and the first timers compared after each.

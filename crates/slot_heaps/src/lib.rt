@@ -2,10 +2,11 @@
 #![tactic(auto)]
 
 mod laws;
-pub mod layout;
+mod layout;
 pub mod pending;
-pub mod roots;
-pub mod search;
+mod roots;
+mod search;
+mod steps;
 
 // What the slots are, for those who use the heaps.
 pub mod slots {

@@ -1,54 +1,93 @@
-// The pending timers: a timer goes into a free slot and into both heaps, and out again. The slots and their count come as two: the owner's
-// type holds both, and these are the steps between which its fact about them is broken.
-ghost use Rattle.std.specs.Prelude.{◌≡◌, ◌+◌, ◌<◌, ◌≤◌, true, false, length, Some, slice_set};
+// The pending timers, in two heaps over lent slots.
+ghost use Rattle.std.specs.Prelude.{◌≡◌, ◌+◌, ◌<◌, ◌≤◌, [], true, false, length, Some, slice_set};
 ghost use Rattle.std.specs.List.{slice_get};
 ghost use Rattle.heap_links.specs.Columns.{timers, slot_at, place_of};
-ghost use Rattle.slot_heaps.specs.Pending.{by_hard, listed, pending as pending_slots, Filled, Inserted, Standing};
-ghost use Rattle.key_heaps.specs.Sifts.{BothHeaped};
+ghost use Rattle.slot_heaps.specs.Pending.{by_hard, by_soft, listed, pending as pending_slots, Inserted, Standing};
+ghost use Rattle.key_heaps.specs.Sifts.{Heaped};
 
-use heap_links::keys::{ByHard, BySoft};
-use heap_links::links::slot_at;
+use crate::layout::lay_out;
+use crate::steps::{insert, remove};
 use heap_links::slots::Slot;
 use heap_links::timer::Timer;
-use key_heaps::heaps::{push, take_out};
 use times::Time;
 
-fn fill<T: Time>(slots: &mut [Slot<T>], slot: u16, timer: Timer<T>)
-    requires { slot < length slots.old }
-    ensures { Filled slot timer slots.old slots.new }
-{
-    slots[slot as usize].timer = timer;
+// Lent slots, and how many of them are pending. Places and slots of each heap point at each other, and both heaps hold the same slots and are
+// in order.
+#[derive(Drop)]
+pub struct PendingTimers<'a, T: Time> {
+    pub(crate) slots: &'a mut [Slot<T>],
+    pub(crate) count: u16,
+    ghost standing: { Standing count slots.now },
+    ghost hard_order: { Heaped T.Time.before (λ x. x.hard) by_hard slots.now count },
+    ghost soft_order: { Heaped T.Time.before (λ x. x.soft) by_soft slots.now count },
 }
 
-// Adds a timer to the `pending` ones, in the slot that is free first by hard time.
-pub fn insert<T: Time>(slots: &mut [Slot<T>], pending: u16, timer: Timer<T>)
-    requires standing { Standing pending slots.old }
-    requires room { pending < length slots.old }
-    ensures standing { Standing (pending + 1) slots.new }
-    ensures timers { timers slots.new ≡ slice_set (timers slots.old) (slot_at by_hard slots.old pending) timer }
-    ensures slots { pending_slots by_hard (pending + 1) slots.new ≡ slice_set (pending_slots by_hard pending slots.old) (slot_at by_hard slots.old pending) true }
-    ensures listed { Inserted timer (listed pending slots.old) (listed (pending + 1) slots.new) }
-    ensures ordered { BothHeaped T.Time.before pending slots.old → BothHeaped T.Time.before (pending + 1) slots.new }
-{
-    let slot = slot_at::<T, ByHard>(slots, pending);
-    fill(slots, slot, timer);
-    push::<T, ByHard>(slots, slot, pending);
-    push::<T, BySoft>(slots, slot, pending);
-}
+impl<'a, T: Time> PendingTimers<'a, T> {
+    // Nothing is pending in these slots.
+    pub fn over(slots: &'a mut [Slot<T>]) -> Self
+        requires { length slots.old ≤ 4096 }
+        ensures count { result.count ≡ 0 }
+        ensures timers { timers result.slots.now ≡ timers slots.old }
+        ensures length { length result.slots.now ≡ length slots.old }
+        ensures listed { listed result.count result.slots.now ≡ [] }
+    {
+        lay_out(slots);
+        PendingTimers { slots, count: 0 }
+    }
 
-// Takes the timer out of a pending slot, which leaves `left` pending ones.
-pub fn remove<T: Time>(slots: &mut [Slot<T>], slot: u16, left: u16) -> Timer<T>
-    requires standing { Standing (left + 1) slots.old }
-    requires within { slot < length slots.old }
-    requires there { place_of by_hard slots.old slot ≤ left }
-    ensures standing { Standing left slots.new }
-    ensures timers { timers slots.new ≡ timers slots.old }
-    ensures value { slice_get (timers slots.old) slot ≡ Some result }
-    ensures slots { pending_slots by_hard left slots.new ≡ slice_set (pending_slots by_hard (left + 1) slots.old) slot false }
-    ensures listed { Inserted result (listed left slots.new) (listed (left + 1) slots.old) }
-    ensures ordered { BothHeaped T.Time.before (left + 1) slots.old → BothHeaped T.Time.before left slots.new }
-{
-    take_out::<T, ByHard>(slots, slot, left);
-    take_out::<T, BySoft>(slots, slot, left);
-    slots[slot as usize].timer
+    // Nothing is pending any more.
+    pub fn clear(&mut self)
+        ensures count { self.new.count ≡ 0 }
+        ensures timers { timers self.new.slots.now ≡ timers self.old.slots.now }
+        ensures length { length self.new.slots.now ≡ length self.old.slots.now }
+        ensures listed { listed self.new.count self.new.slots.now ≡ [] }
+    {
+        lay_out(self.slots);
+        self.count = 0;
+    }
+
+    // How many timers are pending.
+    pub fn count(&self) -> u16
+        ensures value { result ≡ self.now.count }
+        ensures fits { result ≤ length self.now.slots.now }
+    {
+        self.count
+    }
+
+    // How many timers can be pending.
+    pub fn capacity(&self) -> u16
+        ensures value { result ≡ length self.now.slots.now }
+        ensures small { result ≤ 4096 }
+    {
+        self.slots.len() as u16
+    }
+
+    // Adds a timer.
+    pub fn insert(&mut self, timer: Timer<T>)
+        requires { self.old.count < length self.old.slots.now }
+        ensures count { self.new.count ≡ self.old.count + 1 }
+        ensures timers { timers self.new.slots.now ≡ slice_set (timers self.old.slots.now) (slot_at by_hard self.old.slots.now self.old.count) timer }
+        ensures slots { pending_slots by_hard self.new.count self.new.slots.now ≡ slice_set (pending_slots by_hard self.old.count self.old.slots.now) (slot_at by_hard self.old.slots.now self.old.count) true }
+        ensures length { length self.new.slots.now ≡ length self.old.slots.now }
+        ensures listed { Inserted timer (listed self.old.count self.old.slots.now) (listed self.new.count self.new.slots.now) }
+    {
+        insert(self.slots, self.count, timer);
+        self.count += 1;
+    }
+
+    // Takes the timer out of a pending slot.
+    pub fn remove(&mut self, slot: u16) -> Timer<T>
+        requires within { slot < length self.old.slots.now }
+        requires there { place_of by_hard self.old.slots.now slot < self.old.count }
+        ensures count { self.new.count + 1 ≡ self.old.count }
+        ensures timers { timers self.new.slots.now ≡ timers self.old.slots.now }
+        ensures value { slice_get (timers self.old.slots.now) slot ≡ Some result }
+        ensures slots { pending_slots by_hard self.new.count self.new.slots.now ≡ slice_set (pending_slots by_hard self.old.count self.old.slots.now) slot false }
+        ensures length { length self.new.slots.now ≡ length self.old.slots.now }
+        ensures listed { Inserted result (listed self.new.count self.new.slots.now) (listed self.old.count self.old.slots.now) }
+    {
+        let timer = remove(self.slots, slot, self.count - 1);
+        self.count -= 1;
+        timer
+    }
 }

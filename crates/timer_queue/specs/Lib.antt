@@ -1,6 +1,6 @@
 pub mod Doing
 pub mod Firings
-pub mod Inners
+pub mod Held
 pub mod Logs
 pub mod Queues
 pub mod Rings

@@ -4,16 +4,16 @@ ghost use Rattle.alarms.specs.Meaning.{Clears};
 ghost use Rattle.queue_rules.specs.Calls.{usable_of, arming, cancelling, advancing};
 ghost use Rattle.timer_queue.specs.Doing.{state_with, written, unwritten, Done, Greedily, Leaves};
 ghost use Rattle.queue_rules.specs.Events.{armed, cancelled, advanced, counts, Lived};
-ghost use Rattle.timer_queue.specs.Inners.{Spared};
-ghost use Rattle.timer_queue.specs.Queues.{queue_timers};
+ghost use Rattle.timer_queue.specs.Queues.{queue_timers, Spared};
 ghost use Rattle.queue_rules.specs.Timers.{timed};
 
+use crate::advancing::serve;
 use crate::aiming::aim;
-use crate::queue::{Inner, TimerQueue};
+use crate::queue::TimerQueue;
 use alarms::Alarm;
 use queue_rules::fault::QueueFault;
 use queue_rules::firing::Firing;
-use slot_heaps::layout::lay_out;
+use slot_heaps::pending::PendingTimers;
 use slot_heaps::slots::{Slot, usable};
 use slot_heaps::timer::Timer;
 use times::Time;
@@ -24,31 +24,27 @@ impl<'a, T: Time> TimerQueue<'a, T> {
         ensures value { result ≡ length (queue_timers self.now) }
         ensures small { result ≤ 4096 }
     {
-        self.inner.pending
+        self.timers.count()
     }
 
     // How many timers can be pending.
     pub fn usable(&self) -> u16
-        ensures { result ≡ length self.now.inner.slots.now }
+        ensures { result ≡ length self.now.timers.slots.now }
     {
-        self.inner.slots.len() as u16
+        self.timers.capacity()
     }
 
     // A queue over lent slots, with nothing pending.
     pub fn over(slots: &'a mut [Slot<T>]) -> TimerQueue<'a, T>
         ensures timers { queue_timers result ≡ [] }
-        ensures usable { length result.inner.slots.now ≡ usable_of (length slots.old) }
-        ensures spared { result.inner.spare.now ≡ drop (length result.inner.slots.now) slots.old }
+        ensures usable { length result.timers.slots.now ≡ usable_of (length slots.old) }
+        ensures spared { result.spare.now ≡ drop (length result.timers.slots.now) slots.old }
     {
         let count = usize::from(usable(slots.len()));
         let (slots, spare) = slots.split_at_mut(count);
-        lay_out(slots);
         TimerQueue {
-            inner: Inner {
-                slots,
-                spare,
-                pending: 0,
-            },
+            timers: PendingTimers::over(slots),
+            spare,
         }
     }
 
@@ -56,10 +52,10 @@ impl<'a, T: Time> TimerQueue<'a, T> {
     pub fn start<A: Alarm<T>>(&mut self, alarm: &mut A)
         ensures timers { queue_timers self.new ≡ [] }
         ensures alarm { Clears A.AlarmDevice.clock A.AlarmDevice.due alarm.old alarm.new }
-        ensures spared { Spared self.old.inner self.new.inner }
-        ensures history { Lived T.Time.before (length self.old.inner.slots.now) (A.AlarmDevice.clock alarm.old) [] (state_with A.AlarmDevice.clock A.AlarmDevice.due self.new alarm.new) }
+        ensures spared { Spared self.old self.new }
+        ensures history { Lived T.Time.before (length self.old.timers.slots.now) (A.AlarmDevice.clock alarm.old) [] (state_with A.AlarmDevice.clock A.AlarmDevice.due self.new alarm.new) }
     {
-        self.inner.clear();
+        self.timers.clear();
         alarm.clear();
     }
 
@@ -73,11 +69,11 @@ impl<'a, T: Time> TimerQueue<'a, T> {
     ) -> Result<(), QueueFault>
         ensures done { Done T.Time.before A.AlarmDevice.clock A.AlarmDevice.due self.old self.new alarm.old alarm.new (λ s. arming T.Time.before s (timed number soft hard)) result [] (armed (is_ok result) (timed number soft hard)) }
         ensures refused { Leaves result self.old self.new (A.AlarmDevice.clock alarm.old) (A.AlarmDevice.clock alarm.new) (A.AlarmDevice.due alarm.old) (A.AlarmDevice.due alarm.new) }
-        ensures spared { Spared self.old.inner self.new.inner }
+        ensures spared { Spared self.old self.new }
     {
         let timer = Timer { number, soft, hard };
         self.check_arm(alarm, timer)?;
-        self.inner.enter(timer);
+        self.timers.insert(timer);
         aim(alarm, self.least());
         Ok(())
     }
@@ -86,10 +82,10 @@ impl<'a, T: Time> TimerQueue<'a, T> {
     pub fn cancel<A: Alarm<T>>(&mut self, alarm: &mut A, number: u32) -> Result<(), QueueFault>
         ensures done { Done T.Time.before A.AlarmDevice.clock A.AlarmDevice.due self.old self.new alarm.old alarm.new (λ s. cancelling T.Time.before s number) result [] (cancelled (is_ok result) number) }
         ensures refused { Leaves result self.old self.new (A.AlarmDevice.clock alarm.old) (A.AlarmDevice.clock alarm.new) (A.AlarmDevice.due alarm.old) (A.AlarmDevice.due alarm.new) }
-        ensures spared { Spared self.old.inner self.new.inner }
+        ensures spared { Spared self.old self.new }
     {
         let slot = self.check_cancel(alarm, number)?;
-        self.inner.leave(slot);
+        self.timers.remove(slot);
         aim(alarm, self.least());
         Ok(())
     }
@@ -108,11 +104,11 @@ impl<'a, T: Time> TimerQueue<'a, T> {
         ensures refused { Leaves result self.old self.new (A.AlarmDevice.clock alarm.old) (A.AlarmDevice.clock alarm.new) (A.AlarmDevice.due alarm.old) (A.AlarmDevice.due alarm.new) }
         ensures few { IfOk result (λ n. (n.0 ≤ length (queue_timers self.old)) × (n.1 ≤ length (queue_timers self.old)) × (length (queue_timers self.old) ≤ length log.old)) }
         ensures unlogged { OnErr result (log.new ≡ log.old) }
-        ensures spared { Spared self.old.inner self.new.inner }
+        ensures spared { Spared self.old self.new }
     {
         self.check_advance(alarm, t, log.len())?;
-        let pending = self.inner.pending;
-        let wakes = self.inner.serve(alarm, t, log);
-        Ok((wakes, pending - self.inner.pending))
+        let pending = self.pending();
+        let wakes = serve(&mut self.timers, alarm, t, log);
+        Ok((wakes, pending - self.pending()))
     }
 }

@@ -32,9 +32,9 @@ impl<'a, T: Time> TimerQueue<'a, T> {
         alarm: &A,
         timer: Timer<T>,
     ) -> Result<(), QueueFault>
-        ensures answer { refusal_of result ≡ arm_refusal T.Time.before (length self.now.inner.slots.now) (queue_timers self.now) (A.AlarmDevice.clock alarm.now) (A.AlarmDevice.due alarm.now) timer }
+        ensures answer { refusal_of result ≡ arm_refusal T.Time.before (length self.now.timers.slots.now) (queue_timers self.now) (A.AlarmDevice.clock alarm.now) (A.AlarmDevice.due alarm.now) timer }
         ensures ahead { NotPast T.Time.before (A.AlarmDevice.clock alarm.now) (A.AlarmDevice.due alarm.now) }
-        ensures room { OnOk result (self.now.inner.pending < length self.now.inner.slots.now) }
+        ensures room { OnOk result (self.now.timers.count < length self.now.timers.slots.now) }
     {
         self.check_alarm(alarm)?;
         if timer.hard.before(timer.soft) {
@@ -58,9 +58,9 @@ impl<'a, T: Time> TimerQueue<'a, T> {
         alarm: &A,
         number: u32,
     ) -> Result<u16, QueueFault>
-        ensures answer { refusal_of result ≡ cancel_refusal T.Time.before (length self.now.inner.slots.now) (queue_timers self.now) (A.AlarmDevice.clock alarm.now) (A.AlarmDevice.due alarm.now) number }
+        ensures answer { refusal_of result ≡ cancel_refusal T.Time.before (length self.now.timers.slots.now) (queue_timers self.now) (A.AlarmDevice.clock alarm.now) (A.AlarmDevice.due alarm.now) number }
         ensures ahead { NotPast T.Time.before (A.AlarmDevice.clock alarm.now) (A.AlarmDevice.due alarm.now) }
-        ensures slot { IfOk result (λ i. Found number self.now.inner.pending self.now.inner.slots.now (Some i)) }
+        ensures slot { IfOk result (λ i. Found number self.now.timers.count self.now.timers.slots.now (Some i)) }
     {
         self.check_alarm(alarm)?;
         self.find(number).ok_or(QueueFault::NotPending)
@@ -73,15 +73,15 @@ impl<'a, T: Time> TimerQueue<'a, T> {
         t: T,
         room: usize,
     ) -> Result<(), QueueFault>
-        ensures answer { refusal_of result ≡ advance_refusal T.Time.before (length self.now.inner.slots.now) (queue_timers self.now) (A.AlarmDevice.clock alarm.now) (A.AlarmDevice.due alarm.now) t room }
+        ensures answer { refusal_of result ≡ advance_refusal T.Time.before (length self.now.timers.slots.now) (queue_timers self.now) (A.AlarmDevice.clock alarm.now) (A.AlarmDevice.due alarm.now) t room }
         ensures ahead { NotPast T.Time.before (A.AlarmDevice.clock alarm.now) (A.AlarmDevice.due alarm.now) }
-        ensures room { OnOk result (self.now.inner.pending ≤ room) }
+        ensures room { OnOk result (self.now.timers.count ≤ room) }
     {
         self.check_alarm(alarm)?;
         if t.before(alarm.clock()) {
             return Err(QueueFault::AdvancePassed);
         }
-        if room < usize::from(self.inner.pending) {
+        if room < usize::from(self.pending()) {
             return Err(QueueFault::LogShort);
         }
         Ok(())

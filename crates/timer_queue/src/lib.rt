@@ -5,7 +5,6 @@ mod advancing;
 mod aiming;
 mod calls;
 mod checks;
-mod inner;
 mod lookups;
 pub mod queue;
 mod serving;

@@ -6,7 +6,7 @@ ghost use Rattle.queue_rules.specs.Timers.{least_hard, numbered};
 ghost use Rattle.timer_queue.specs.Queues.{queue_timers};
 
 use crate::queue::TimerQueue;
-use slot_heaps::search::find;
+use crate::serving::least;
 use times::Time;
 
 impl<'a, T: Time> TimerQueue<'a, T> {
@@ -14,14 +14,14 @@ impl<'a, T: Time> TimerQueue<'a, T> {
     pub(crate) fn least(&self) -> Option<T>
         ensures { result ≡ least_hard T.Time.before (queue_timers self.now) }
     {
-        self.inner.least()
+        least(&self.timers)
     }
 
     // The slot in which a number is pending.
     pub(crate) fn find(&self, number: u32) -> Option<u16>
-        ensures found { Found number self.now.inner.pending self.now.inner.slots.now result }
+        ensures found { Found number self.now.timers.count self.now.timers.slots.now result }
         ensures pending { is_some result ≡ passes (numbered number) (queue_timers self.now) }
     {
-        find(self.inner.slots, self.inner.pending, number)
+        self.timers.find(number)
     }
 }

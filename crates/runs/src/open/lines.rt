@@ -1,7 +1,7 @@
 // A line to an open run.
 ghost use Rattle.std.specs.Prelude.{◌≡◌, ◌≤◌, Bool, length, IfOk};
 ghost use Rattle.timer_queue.specs.Doing.{state_with};
-ghost use Rattle.timer_queue.specs.Inners.{Spared};
+ghost use Rattle.timer_queue.specs.Queues.{Spared};
 ghost use Rattle.timer_queue.specs.Queues.{queue_timers};
 ghost use Rattle.runs.specs.Calling.{opened_with, line_effect, effect_left, line_events, CarriesOn, Untouched};
 ghost use Rattle.runs.specs.Finishing.{told};
@@ -32,7 +32,7 @@ impl<T: Plain> OpenRun<T> {
         ensures left { opened_with A.AlarmDevice.clock A.AlarmDevice.due self.new.closing queue.new alarm.new ≡ effect_left (line_effect (kind_of_time T.Plain) (length log.old) (opened_with A.AlarmDevice.clock A.AlarmDevice.due self.old.closing queue.old alarm.old) line.now) (opened_with A.AlarmDevice.clock A.AlarmDevice.due self.old.closing queue.old alarm.old) }
         ensures few { IfOk result (λ n. (n.0 ≤ length (queue_timers queue.old)) × (n.1 ≤ length (queue_timers queue.old)) × (n.1 ≤ length log.old)) }
         ensures refused { Untouched result queue.old queue.new (A.AlarmDevice.clock alarm.old) (A.AlarmDevice.clock alarm.new) (A.AlarmDevice.due alarm.old) (A.AlarmDevice.due alarm.new) log.old log.new }
-        ensures spared { Spared queue.old.inner queue.new.inner }
+        ensures spared { Spared queue.old queue.new }
     {
         let step = self.step(line, alarm.clock())?;
         let counts = perform(queue, alarm, step, log)?;
@@ -53,7 +53,7 @@ impl<T: Plain> OpenRun<T> {
         ensures history { CarriesOn (kind_of_time T.Plain) (state_with A.AlarmDevice.clock A.AlarmDevice.due queue.old alarm.old) (line_events (kind_of_time T.Plain) (length buffer.old) (length log.old) (tally_of self.old.counts) (opened_with A.AlarmDevice.clock A.AlarmDevice.due self.old.closing queue.old alarm.old) line.now) (state_with A.AlarmDevice.clock A.AlarmDevice.due queue.new alarm.new) }
         ensures within { result.written ≤ length buffer.old }
         ensures refused { Untouched result.answer queue.old queue.new (A.AlarmDevice.clock alarm.old) (A.AlarmDevice.clock alarm.new) (A.AlarmDevice.due alarm.old) (A.AlarmDevice.due alarm.new) log.old log.new }
-        ensures spared { Spared queue.old.inner queue.new.inner }
+        ensures spared { Spared queue.old queue.new }
     {
         let next = match self.counts.next_line(buffer.len(), queue.pending()) {
             Ok(next) => next,

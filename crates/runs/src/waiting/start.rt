@@ -1,6 +1,6 @@
 // Opening a run at the start that was accepted.
 ghost use Rattle.std.specs.Prelude.{◌≡◌, MatchResult};
-ghost use Rattle.timer_queue.specs.Inners.{Spared};
+ghost use Rattle.timer_queue.specs.Queues.{Spared};
 ghost use Rattle.runs.specs.Calling.{Started};
 ghost use Rattle.runs.specs.Moves.{Opens};
 ghost use Rattle.runs.specs.Opening.{startable};
@@ -43,7 +43,7 @@ impl WaitingRun {
     ) -> Result<OpenRun<T>, (WaitingRun, RunFault)>
         ensures opens { Opens (startable self.accepted T.NamedTime.kind (T.Plain.plain (A.AlarmDevice.clock alarm.old))) self result }
         ensures started { MatchResult result (λ _. Started T.Time.before A.AlarmDevice.clock A.AlarmDevice.due queue.old queue.new alarm.old alarm.new) (λ _. (queue.new ≡ queue.old) × (A.AlarmDevice.clock alarm.new ≡ A.AlarmDevice.clock alarm.old) × (A.AlarmDevice.due alarm.new ≡ A.AlarmDevice.due alarm.old)) }
-        ensures spared { Spared queue.old.inner queue.new.inner }
+        ensures spared { Spared queue.old queue.new }
     {
         let run = self.open_at(alarm.clock())?;
         queue.start(alarm);

@@ -3,10 +3,10 @@ use Rattle.std.proofs.lemmas.Result.{err_from_is_err_and}
 use Rattle.heap_links.specs.declared.timer.Timer.{Timer}
 use Rattle.queue_rules.specs.declared.fault.QueueFault.{QueueFault}
 use Rattle.queue_rules.specs.declared.firing.Firing.{Firing}
-use Rattle.timer_queue.specs.declared.queue.Inner.{Inner}
+use Rattle.slot_heaps.specs.declared.pending.PendingTimers.{PendingTimers}
 use Rattle.queue_rules.specs.Calls.{State, advancing}
 use Rattle.timer_queue.specs.Doing.{state_with, gives}
-use Rattle.timer_queue.specs.Inners.{held_timers}
+use Rattle.timer_queue.specs.Held.{held_timers}
 use Rattle.timer_queue.specs.Services.{CountedAll, Ready, ServedAll}
 use Rattle.queue_rules.specs.Timers.{by_number}
 use Rattle.timer_queue.specs.Views.{view, advance_refusal}
@@ -31,7 +31,7 @@ returns-in_err-check_advance-clause-done g c =
     let p = err_from_is_err_and c.from_residual.result c.from_residual.ensures.1 in
     let e : c.from_residual.result ≡ Err f = p.1 ∙ ap Err p.2 in
     advance_away before g.A.AlarmDevice.clock g.A.AlarmDevice.due q c.args.alarm.now g.met.T.Time.ordered t (length old) old f c.from_residual.result e
-    (advance_turned before g.met.T.Time.ordered (length q.inner.slots.now) (held_timers q.inner) s.clock s.due t (length old) f c.in_err-check_advance.ensures.answer)
+    (advance_turned before g.met.T.Time.ordered (length q.timers.slots.now) (held_timers q.timers) s.clock s.due t (length old) f c.in_err-check_advance.ensures.answer)
 
 pub invariant_of-self : goal.invariant_of-self
 invariant_of-self g c =
@@ -42,15 +42,14 @@ invariant_of-self g c =
     let q = c.args.self.now in
     let a : g.row.A.Denot = c.args.alarm.now in
     let a' : g.row.A.Denot = c.serve-wakes.new.alarm in
-    let j : Inner g.row.T.Denot g.T.Time = c.serve-wakes.new.self in
+    let j : PendingTimers g.row.T.Denot g.T.Time = c.serve-wakes.new.timers in
     let t : g.row.T.Denot = c.args.t in
     let old : List (Firing g.row.T.Denot) = c.args.log.now in
     let new : List (Firing g.row.T.Denot) = c.serve-wakes.new.log in
-    let u : ℕ = length q.inner.slots.now in
-    let p : ℕ = q.inner.pending in
+    let u : ℕ = length q.timers.slots.now in
+    let p : ℕ = q.timers.count in
     let n : ℕ = c.serve-wakes.result in
-    let m : ℕ = p - j.pending in
-    let xs : List (Timer g.row.T.Denot) = held_timers q.inner in
+    let xs : List (Timer g.row.T.Denot) = held_timers q.timers in
     let ys : List (Timer g.row.T.Denot) = held_timers j in
     let free : advance_refusal before u xs (clock a) (due a) t (length old) ≡ None = sym c.in_ok-check_advance.ensures.answer in
     let ready : Ready before p xs (clock a) (due a) t = record {
@@ -62,7 +61,7 @@ invariant_of-self g c =
     } in
     let served : ServedAll before t xs ys n old new (clock a') (due a') = c.serve-wakes.ensures.served ready in
     record {
-      counted = counted_still q.inner j c.serve-wakes.ensures.spared q.counted;
+      counted = counted_still _ _ (length q.spare.now) c.serve-wakes.ensures.length q.counted;
       held = let held = q.held in omega (arith, c.serve-wakes.ensures.held, held);
       distinct = served.distinct;
       proper = served.proper;
@@ -77,15 +76,15 @@ returns-clause-done g c =
     let q = c.args.self.now in
     let a : g.row.A.Denot = c.args.alarm.now in
     let a' : g.row.A.Denot = c.serve-wakes.new.alarm in
-    let j : Inner g.row.T.Denot g.T.Time = c.serve-wakes.new.self in
+    let j : PendingTimers g.row.T.Denot g.T.Time = c.serve-wakes.new.timers in
     let t : g.row.T.Denot = c.args.t in
     let old : List (Firing g.row.T.Denot) = c.args.log.now in
     let new : List (Firing g.row.T.Denot) = c.serve-wakes.new.log in
-    let u : ℕ = length q.inner.slots.now in
-    let p : ℕ = q.inner.pending in
+    let u : ℕ = length q.timers.slots.now in
+    let p : ℕ = q.timers.count in
     let n : ℕ = c.serve-wakes.result in
-    let m : ℕ = p - j.pending in
-    let xs : List (Timer g.row.T.Denot) = held_timers q.inner in
+    let m : ℕ = c.pending-pending.result - c.pending.result in
+    let xs : List (Timer g.row.T.Denot) = held_timers q.timers in
     let ys : List (Timer g.row.T.Denot) = held_timers j in
     let free : advance_refusal before u xs (clock a) (due a) t (length old) ≡ None = sym c.in_ok-check_advance.ensures.answer in
     let ready : Ready before p xs (clock a) (due a) t = record {
@@ -98,12 +97,12 @@ returns-clause-done g c =
     let served : ServedAll before t xs ys n old new (clock a') (due a') = c.serve-wakes.ensures.served ready in
     let counted : CountedAll before t xs ys = c.serve-wakes.ensures.counted ready in
     let held = q.held in
-    let fired : length xs ≡ length ys + m = omega (arith, c.serve-wakes.ensures.held, c.serve-wakes.ensures.few_wakes) in
+    let fired : length xs ≡ length ys + m = omega (arith, c.pending-pending.ensures.value, c.pending.ensures.value, c.serve-wakes.ensures.held, c.serve-wakes.ensures.fewer) in
     let s : State g.row.T.Denot = view u xs (clock a) (due a) in
     let s' : State g.row.T.Denot = view (length j.slots.now) ys (clock a') (due a') in
     let out : advancing before s t (length old) ≡ gives (Ok (n, m)) s' (take m new) =
     advanced_so before o u xs (clock a) (due a) t (length old) free ys n m old new (clock a') (due a') q.distinct q.proper served counted fired
-    (length j.slots.now) c.serve-wakes.ensures.spared.usable in
+    (length j.slots.now) c.serve-wakes.ensures.length in
     record { outcome = out; history = advance_carries before o s s' t (length old) (Ok (n, m)) (take m new) out }
 
 pub returns-clause-greedy : goal.returns-clause-greedy
@@ -115,15 +114,15 @@ returns-clause-greedy g c =
     let q = c.args.self.now in
     let a : g.row.A.Denot = c.args.alarm.now in
     let a' : g.row.A.Denot = c.serve-wakes.new.alarm in
-    let j : Inner g.row.T.Denot g.T.Time = c.serve-wakes.new.self in
+    let j : PendingTimers g.row.T.Denot g.T.Time = c.serve-wakes.new.timers in
     let t : g.row.T.Denot = c.args.t in
     let old : List (Firing g.row.T.Denot) = c.args.log.now in
     let new : List (Firing g.row.T.Denot) = c.serve-wakes.new.log in
-    let u : ℕ = length q.inner.slots.now in
-    let p : ℕ = q.inner.pending in
+    let u : ℕ = length q.timers.slots.now in
+    let p : ℕ = q.timers.count in
     let n : ℕ = c.serve-wakes.result in
-    let m : ℕ = p - j.pending in
-    let xs : List (Timer g.row.T.Denot) = held_timers q.inner in
+    let m : ℕ = c.pending-pending.result - c.pending.result in
+    let xs : List (Timer g.row.T.Denot) = held_timers q.timers in
     let ys : List (Timer g.row.T.Denot) = held_timers j in
     let free : advance_refusal before u xs (clock a) (due a) t (length old) ≡ None = sym c.in_ok-check_advance.ensures.answer in
     let ready : Ready before p xs (clock a) (due a) t = record {
@@ -136,11 +135,11 @@ returns-clause-greedy g c =
     let served : ServedAll before t xs ys n old new (clock a') (due a') = c.serve-wakes.ensures.served ready in
     let counted : CountedAll before t xs ys = c.serve-wakes.ensures.counted ready in
     let held = q.held in
-    let fired : length xs ≡ length ys + m = omega (arith, c.serve-wakes.ensures.held, c.serve-wakes.ensures.few_wakes) in
+    let fired : length xs ≡ length ys + m = omega (arith, c.pending-pending.ensures.value, c.pending.ensures.value, c.serve-wakes.ensures.held, c.serve-wakes.ensures.fewer) in
     let s : State g.row.T.Denot = view u xs (clock a) (due a) in
     let s' : State g.row.T.Denot = view (length j.slots.now) ys (clock a') (due a') in
     let out : advancing before s t (length old) ≡ gives (Ok (n, m)) s' (take m new) =
     advanced_so before o u xs (clock a) (due a) t (length old) free ys n m old new (clock a') (due a') q.distinct q.proper served counted fired
-    (length j.slots.now) c.serve-wakes.ensures.spared.usable in
+    (length j.slots.now) c.serve-wakes.ensures.length in
     let r = sorted_rearranged by_number xs in
     advance_greedy before o s s' t (length old) (Ok (n, m)) (take m new) (distinct_rearranged r q.distinct) (all_rearranged _ r q.proper) out

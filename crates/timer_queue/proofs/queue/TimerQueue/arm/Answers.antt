@@ -3,12 +3,12 @@ use Rattle.alarms.specs.Meaning.{NotPast}
 use Rattle.std.proofs.lemmas.Result.{err_from_is_err_and}
 use Rattle.heap_links.specs.declared.timer.Timer.{Timer}
 use Rattle.queue_rules.specs.declared.fault.QueueFault.{QueueFault}
-use Rattle.timer_queue.specs.declared.queue.Inner.{Inner}
+use Rattle.slot_heaps.specs.declared.pending.PendingTimers.{PendingTimers}
 use Rattle.queue_rules.specs.Calls.{State, arming}
 use Rattle.timer_queue.specs.Doing.{state_with}
 use Rattle.queue_rules.specs.Events.{armed}
 use Rattle.slot_heaps.specs.Pending.{Inserted}
-use Rattle.timer_queue.specs.Inners.{held_timers}
+use Rattle.timer_queue.specs.Held.{held_timers}
 use Rattle.queue_rules.specs.Timers.{timed, least_hard}
 use Rattle.timer_queue.specs.Views.{view, arm_refusal}
 use Rattle.timer_queue.proofs.Carried.{arm_carries}
@@ -30,7 +30,7 @@ returns-in_err-check_arm-clause-done g c =
     let e : c.from_residual.result ≡ Err f = p.1 ∙ ap Err p.2 in
     turned_away before g.A.AlarmDevice.clock g.A.AlarmDevice.due q c.args.alarm.now (λ t. arming before t x) (λ r. armed (is_ok r) x) f c.from_residual.result
     (arm_carries before g.met.T.Time.ordered s s x)
-    (arm_turned before g.met.T.Time.ordered (length q.inner.slots.now) (held_timers q.inner) s.clock s.due x f c.in_err-check_arm.ensures.answer) e
+    (arm_turned before g.met.T.Time.ordered (length q.timers.slots.now) (held_timers q.timers) s.clock s.due x f c.in_err-check_arm.ensures.answer) e
 
 pub invariant_of-self : goal.invariant_of-self
 invariant_of-self g c =
@@ -38,15 +38,15 @@ invariant_of-self g c =
     let o = g.met.T.Time.ordered in
     let q = c.args.self.now in
     let a : g.row.A.Denot = c.args.alarm.now in
-    let i : Inner g.row.T.Denot g.T.Time = q.inner in
-    let j : Inner g.row.T.Denot g.T.Time = c.enter.new.self in
+    let i : PendingTimers g.row.T.Denot g.T.Time = q.timers in
+    let j : PendingTimers g.row.T.Denot g.T.Time = c.insert.new.self in
     let x : Timer g.row.T.Denot = timed c.args.number c.args.soft c.args.hard in
     let free : arm_refusal before (length i.slots.now) (held_timers i) (g.A.AlarmDevice.clock a) (g.A.AlarmDevice.due a) x ≡ None = sym c.in_ok-check_arm.ensures.answer in
     let ahead = c.check_arm.ensures.ahead in
-    let list : Inserted x (held_timers i) (held_timers j) = c.enter.ensures.listed in
+    let list : Inserted x (held_timers i) (held_timers j) = c.insert.ensures.listed in
     record {
-      counted = counted_still i j c.enter.ensures.spared q.counted;
-      held = inserted_length _ (held_timers i) (held_timers j) list ∙ omega (arith, q.held, c.enter.ensures.pending);
+      counted = counted_still _ _ (length q.spare.now) c.insert.ensures.length q.counted;
+      held = inserted_length _ (held_timers i) (held_timers j) list ∙ omega (arith, q.held, c.insert.ensures.count);
       distinct = entered_distinct before o (length i.slots.now) (held_timers i) (held_timers j) (g.A.AlarmDevice.clock a) (g.A.AlarmDevice.due a) x free ahead list q.distinct q.proper;
       proper = entered_proper before o (length i.slots.now) (held_timers i) (held_timers j) (g.A.AlarmDevice.clock a) (g.A.AlarmDevice.due a) x free ahead list q.distinct q.proper;
     }
@@ -59,19 +59,19 @@ returns-clause-done g c =
     let due = g.A.AlarmDevice.due in
     let q = c.args.self.now in
     let a : g.row.A.Denot = c.args.alarm.now in
-    let j : Inner g.row.T.Denot g.T.Time = c.enter.new.self in
+    let j : PendingTimers g.row.T.Denot g.T.Time = c.insert.new.self in
     let x : Timer g.row.T.Denot = timed c.args.number c.args.soft c.args.hard in
-    let u : ℕ = length q.inner.slots.now in
-    let xs : List (Timer g.row.T.Denot) = held_timers q.inner in
+    let u : ℕ = length q.timers.slots.now in
+    let xs : List (Timer g.row.T.Denot) = held_timers q.timers in
     let ys : List (Timer g.row.T.Denot) = held_timers j in
     let free : arm_refusal before u xs (clock a) (due a) x ≡ None = sym c.in_ok-check_arm.ensures.answer in
     let ahead = c.check_arm.ensures.ahead in
-    let list = c.enter.ensures.listed in
+    let list = c.insert.ensures.listed in
     let least : c.least.result ≡ least_hard before ys = c.least.ensures in
     let not_past = entered_ahead before o u xs ys (clock a) (due a) x free ahead list q.distinct q.proper in
     let at_least : due c.aim.new.alarm ≡ least_hard before ys = c.aim.ensures.due (subst (NotPast before (clock a)) (sym least) not_past) ∙ least in
     let e = entered before o u xs ys (clock a) (due a) x free ahead list q.distinct q.proper (length j.slots.now) (clock c.aim.new.alarm) (due c.aim.new.alarm)
-    c.enter.ensures.spared.usable c.aim.ensures.clock at_least in
+    c.insert.ensures.length c.aim.ensures.clock at_least in
     record {
       outcome = e;
       history = arm_carries before o (view u xs (clock a) (due a)) (view (length j.slots.now) ys (clock c.aim.new.alarm) (due c.aim.new.alarm)) x (Ok tt) e;

@@ -3,12 +3,12 @@ use Rattle.std.proofs.lemmas.Result.{err_from_is_err_and}
 use Rattle.alarms.specs.Meaning.{NotPast}
 use Rattle.heap_links.specs.declared.timer.Timer.{Timer}
 use Rattle.queue_rules.specs.declared.fault.QueueFault.{QueueFault}
-use Rattle.timer_queue.specs.declared.queue.Inner.{Inner}
+use Rattle.slot_heaps.specs.declared.pending.PendingTimers.{PendingTimers}
 use Rattle.queue_rules.specs.Calls.{State, cancelling}
 use Rattle.timer_queue.specs.Doing.{state_with}
 use Rattle.queue_rules.specs.Events.{cancelled}
 use Rattle.slot_heaps.specs.Pending.{Inserted}
-use Rattle.timer_queue.specs.Inners.{held_timers}
+use Rattle.timer_queue.specs.Held.{held_timers}
 use Rattle.queue_rules.specs.Timers.{least_hard}
 use Rattle.timer_queue.specs.Views.{view, cancel_refusal}
 use Rattle.timer_queue.proofs.Carried.{cancel_carries}
@@ -30,7 +30,7 @@ returns-in_err-slot-clause-done g c =
     let e : c.from_residual.result ≡ Err f = p.1 ∙ ap Err p.2 in
     turned_away before g.A.AlarmDevice.clock g.A.AlarmDevice.due q c.args.alarm.now (λ t. cancelling before t n) (λ r. cancelled (is_ok r) n) f c.from_residual.result
     (cancel_carries before g.met.T.Time.ordered s s n)
-    (cancel_turned before g.met.T.Time.ordered (length q.inner.slots.now) (held_timers q.inner) s.clock s.due n f c.in_err-slot.ensures.answer) e
+    (cancel_turned before g.met.T.Time.ordered (length q.timers.slots.now) (held_timers q.timers) s.clock s.due n f c.in_err-slot.ensures.answer) e
 
 pub invariant_of-self : goal.invariant_of-self
 invariant_of-self g c =
@@ -39,21 +39,21 @@ invariant_of-self g c =
     let q = c.args.self.now in
     let a : g.row.A.Denot = c.args.alarm.now in
     let n : ℕ = c.args.number in
-    let i : Inner g.row.T.Denot g.T.Time = q.inner in
-    let j : Inner g.row.T.Denot g.T.Time = c.leave.new.self in
-    let x : Timer g.row.T.Denot = c.leave.result in
+    let i : PendingTimers g.row.T.Denot g.T.Time = q.timers in
+    let j : PendingTimers g.row.T.Denot g.T.Time = c.remove.new.self in
+    let x : Timer g.row.T.Denot = c.remove.result in
     let hit = c.in_ok-slot.ensures.slot in
     let found : cancel_refusal before (length i.slots.now) (held_timers i) (g.A.AlarmDevice.clock a) (g.A.AlarmDevice.due a) n ≡ None = sym c.in_ok-slot.ensures.answer in
     let ahead = c.check_cancel.ensures.ahead in
     let at = hit.1.timer in
-    let value = c.leave.ensures.value in
+    let value = c.remove.ensures.value in
     let name = hit.2 in
     let named : x.number ≡ n = cc in
-    let list : Inserted x (held_timers j) (held_timers i) = c.leave.ensures.listed in
+    let list : Inserted x (held_timers j) (held_timers i) = c.remove.ensures.listed in
     let m = inserted_length _ (held_timers j) (held_timers i) list in
     record {
-      counted = counted_still i j c.leave.ensures.spared q.counted;
-      held = omega (arith, m, q.held, c.leave.ensures.pending);
+      counted = counted_still _ _ (length q.spare.now) c.remove.ensures.length q.counted;
+      held = omega (arith, m, q.held, c.remove.ensures.count);
       distinct = left_distinct before o (length i.slots.now) (held_timers i) (held_timers j) (g.A.AlarmDevice.clock a) (g.A.AlarmDevice.due a) n x found ahead list named q.distinct q.proper;
       proper = left_proper before o (length i.slots.now) (held_timers i) (held_timers j) (g.A.AlarmDevice.clock a) (g.A.AlarmDevice.due a) n x found ahead list named q.distinct q.proper;
     }
@@ -67,25 +67,25 @@ returns-clause-done g c =
     let q = c.args.self.now in
     let a : g.row.A.Denot = c.args.alarm.now in
     let a' : g.row.A.Denot = c.aim.new.alarm in
-    let j : Inner g.row.T.Denot g.T.Time = c.leave.new.self in
+    let j : PendingTimers g.row.T.Denot g.T.Time = c.remove.new.self in
     let n : ℕ = c.args.number in
-    let x : Timer g.row.T.Denot = c.leave.result in
-    let u : ℕ = length q.inner.slots.now in
-    let xs : List (Timer g.row.T.Denot) = held_timers q.inner in
+    let x : Timer g.row.T.Denot = c.remove.result in
+    let u : ℕ = length q.timers.slots.now in
+    let xs : List (Timer g.row.T.Denot) = held_timers q.timers in
     let ys : List (Timer g.row.T.Denot) = held_timers j in
     let found : cancel_refusal before u xs (clock a) (due a) n ≡ None = sym c.in_ok-slot.ensures.answer in
     let ahead = c.check_cancel.ensures.ahead in
     let hit = c.in_ok-slot.ensures.slot in
-    let list : Inserted x ys xs = c.leave.ensures.listed in
+    let list : Inserted x ys xs = c.remove.ensures.listed in
     let at = hit.1.timer in
-    let value = c.leave.ensures.value in
+    let value = c.remove.ensures.value in
     let name = hit.2 in
     let named : x.number ≡ n = cc in
     let least : c.least.result ≡ least_hard before ys = c.least.ensures in
     let not_past = left_ahead before o u xs ys (clock a) (due a) n x found ahead list named q.distinct q.proper in
     let at_least : due a' ≡ least_hard before ys = c.aim.ensures.due (subst (NotPast before (clock a)) (sym least) not_past) ∙ least in
     let e = left before o u xs ys (clock a) (due a) n x found ahead list named q.distinct q.proper (length j.slots.now) (clock a') (due a')
-    c.leave.ensures.spared.usable c.aim.ensures.clock at_least in
+    c.remove.ensures.length c.aim.ensures.clock at_least in
     record {
       outcome = e;
       history = cancel_carries before o (view u xs (clock a) (due a)) (view (length j.slots.now) ys (clock a') (due a')) n (Ok tt) e;

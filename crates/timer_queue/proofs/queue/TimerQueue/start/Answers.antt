@@ -1,7 +1,7 @@
 use Rattle.std.proofs.Common.{◌≡◌, ℕ, Bool, List, [], None, Option, sym, subst, rules}
 use Rattle.heap_links.specs.declared.timer.Timer.{Timer}
 use Rattle.queue_rules.specs.Events.{Lived, starting}
-use Rattle.timer_queue.specs.Inners.{held_timers}
+use Rattle.timer_queue.specs.Held.{held_timers}
 use Rattle.timer_queue.specs.Views.{view}
 use Rattle.timer_queue.proofs.queue.TimerQueue.start.Goals as goal
 
@@ -15,4 +15,4 @@ started_so before u u' xs c c' d p q r e =
 pub returns-clause-history : goal.returns-clause-history
 returns-clause-history g c =
     let none : held_timers c.clear.new.self ≡ [] = search rules in
-    started_so g.T.Time.before _ _ _ _ _ _ c.clear.ensures.spared.usable none c.clear-2.ensures.clocked c.clear-2.ensures.timed
+    started_so g.T.Time.before _ _ _ _ _ _ c.clear.ensures.length none c.clear-2.ensures.clocked c.clear-2.ensures.timed

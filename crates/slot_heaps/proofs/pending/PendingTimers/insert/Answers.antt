@@ -1,4 +1,4 @@
-use Rattle.timer_queue.proofs.queue.Inner.enter.Goals as goal
+use Rattle.slot_heaps.proofs.pending.PendingTimers.insert.Goals as goal
 
 pub invariant_of-self : goal.invariant_of-self
 invariant_of-self g c =

@@ -2,7 +2,7 @@ use Rattle.std.proofs.Common.{◌+◌, true, arith}
 use Rattle.slot_heaps.specs.Pending.{by_hard, by_soft}
 use Rattle.slot_heaps.proofs.Inserting.{place_same, standing_filled, free_filled, length_filled, both_heaped_filled, listed_inserted}
 use Rattle.slot_heaps.proofs.TwoHeaps.{heaped_same, timers_then, marks_then, standing_then}
-use Rattle.slot_heaps.proofs.pending.insert.Goals as goal
+use Rattle.slot_heaps.proofs.steps.insert.Goals as goal
 
 pub push-requires-2-clause-free : goal.push-requires-2-clause-free
 push-requires-2-clause-free g c =

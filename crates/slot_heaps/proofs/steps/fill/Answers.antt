@@ -2,7 +2,7 @@ use Rattle.std.proofs.Common.{refl}
 use Rattle.std.proofs.lemmas.List.{map-set}
 use Rattle.slot_heaps.specs.Pending.{by_hard, by_soft}
 use Rattle.heap_links.proofs.Reading.{column_kept}
-use Rattle.slot_heaps.proofs.pending.fill.Goals as goal
+use Rattle.slot_heaps.proofs.steps.fill.Goals as goal
 
 pub returns : goal.returns
 returns g c =

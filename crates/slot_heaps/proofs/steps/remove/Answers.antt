@@ -2,7 +2,7 @@ use Rattle.std.proofs.Common.{◌+◌, false, arith}
 use Rattle.slot_heaps.specs.Pending.{by_hard, by_soft}
 use Rattle.slot_heaps.proofs.Inserting.{place_same, listed_removed}
 use Rattle.slot_heaps.proofs.TwoHeaps.{heaped_same, pending_both, timer_then, timers_then, marks_then, standing_then}
-use Rattle.slot_heaps.proofs.pending.remove.Goals as goal
+use Rattle.slot_heaps.proofs.steps.remove.Goals as goal
 
 pub take_out-requires-2-clause-there : goal.take_out-requires-2-clause-there
 take_out-requires-2-clause-there g c =

@@ -1,8 +1,0 @@
-use Rattle.std.proofs.Common.{◌≡◌, ◌∙◌, rules}
-use Rattle.timer_queue.proofs.Tops.{hard_of, top_hard}
-use Rattle.timer_queue.proofs.queue.Inner.least.Goals as goal
-
-pub returns : goal.returns
-returns g c =
-    let hard : c.map.result ≡ hard_of c.first_by_hard.result = search rules in
-    hard ∙ top_hard g.T.Time.before g.met.T.Time.ordered c.args.self.now.pending c.args.self.now.slots.now c.first_by_hard.result c.first_by_hard.ensures c.args.self.now.hard_order
