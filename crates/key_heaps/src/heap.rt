@@ -66,7 +66,7 @@ impl<'a, T: Time, K: Key<T>> Heap<'a, T, K> {
         let slots = &*self.slots;
         let i = links::slot_at::<T, K>(slots, p);
         let j = links::slot_at::<T, K>(slots, q);
-        comes_first::<T, K>(&slots[i as usize].timer, &slots[j as usize].timer)
+        comes_first::<T, K>(&slots[usize::from(i)].timer, &slots[usize::from(j)].timer)
     }
 
     // Of two places the one whose timer comes first, and p where neither does.
