@@ -5,7 +5,7 @@ ghost use Rattle.runs.specs.Waiting.{closed_line, TotalsBy};
 
 use crate::counts::Counts;
 use crate::faults::RunFault;
-use crate::replies::{Replied, ignore, refuse};
+use crate::replies::{Replied, answer, ignore};
 use crate::report::Report;
 
 #[derive(Drop)]
@@ -30,7 +30,7 @@ impl ClosedRun {
             Err(fault) => return ignore(self.counts, fault),
         };
         let mut report = Report { buffer, at: 0 };
-        let (counts, replied) = refuse(next, &mut report, RunFault::NotNow);
+        let (counts, replied) = answer(next, &mut report, Err(RunFault::NotNow));
         self.counts = counts;
         replied
     }

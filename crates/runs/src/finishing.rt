@@ -5,7 +5,7 @@ ghost use Rattle.runs.specs.Replies.{tally_of, heard, RepliedBy};
 
 use crate::counts::{Counts, NextLine};
 use crate::faults::RunFault;
-use crate::replies::{Replied, accept, refuse};
+use crate::replies::{Replied, answer};
 use crate::report::Report;
 use queue_rules::firing::Firing;
 use times::Plain;
@@ -21,11 +21,8 @@ pub(crate) fn finish<T: Plain>(
     ensures { RepliedBy (heard (tally_of next.counts) tt (told T.Plain.plain outcome log.now)) (tally_of result.0) tt buffer.old buffer.new result.1 }
 {
     let mut report = Report { buffer, at: 0 };
-    match outcome {
-        Ok(served) => {
-            report.add_firings(&log[0..usize::from(served.1)]);
-            accept(next, &mut report, served)
-        }
-        Err(fault) => refuse(next, &mut report, fault),
+    if let Ok((_, firings)) = outcome {
+        report.add_firings(&log[0..usize::from(firings)]);
     }
+    answer(next, &mut report, outcome)
 }

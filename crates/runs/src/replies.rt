@@ -3,7 +3,7 @@ use crate::faults::RunFault;
 
 mod answering;
 
-pub(crate) use answering::{accept, ignore, refuse};
+pub(crate) use answering::{answer, ignore};
 
 // Why a line was refused, and which line.
 #[derive(Clone, Copy, PartialEq, Eq, Debug)]

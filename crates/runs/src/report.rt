@@ -2,6 +2,7 @@
 ghost use Rattle.std.specs.Prelude.{◌≡◌, ◌+◌, ◌*◌, ◌≤◌, map, length};
 
 use crate::counts::Counts;
+use crate::faults::RunFault;
 use frames::write::write_frame;
 use queue_rules::firing::Firing;
 use times::Plain;
@@ -16,7 +17,7 @@ pub(crate) struct Report<'a> {
 
 impl Report<'_> {
     ghost use Rattle.runs.specs.Frames.{text, frame_payload, firing_frame};
-    ghost use Rattle.runs.specs.Report.{report_line, answer_payload, totals_payload};
+    ghost use Rattle.runs.specs.Report.{report_line, outcome_payload, totals_payload};
     ghost use Rattle.runs.specs.Reports.{room, Extends};
 
     // Adds the frame of a payload.
@@ -31,13 +32,17 @@ impl Report<'_> {
     }
 
     // Adds the answer of a line: its number, the refusal or 0, the wake-ups and the firings.
-    pub(crate) fn add_answer(&mut self, line: u32, refusal: u8, served: (u16, u16))
+    pub(crate) fn add_answer(&mut self, line: u32, outcome: Result<(u16, u16), RunFault>)
         requires { 23 ≤ room self.old }
-        ensures { Extends (report_line (answer_payload line refusal served.0 served.1)) self.old self.new }
+        ensures { Extends (report_line (outcome_payload line outcome)) self.old self.new }
     {
+        let (refusal, wakes, firings) = match outcome {
+            Ok((wakes, firings)) => (0, wakes, firings),
+            Err(fault) => (fault.number(), 0, 0),
+        };
         let [l0, l1, l2, l3] = line.to_be_bytes();
-        let [w0, w1] = served.0.to_be_bytes();
-        let [f0, f1] = served.1.to_be_bytes();
+        let [w0, w1] = wakes.to_be_bytes();
+        let [f0, f1] = firings.to_be_bytes();
         self.add(&[0x90, l0, l1, l2, l3, refusal, w0, w1, f0, f1]);
     }
 

@@ -6,7 +6,7 @@ use lines::splitter::LineSplitter;
 use runs::closed::ClosedRun;
 use runs::replies::Replied;
 use std::io;
-use std::io::{BufWriter, Read, Stdin, Stdout, Write};
+use std::io::{BufRead, BufReader, BufWriter, Stdin, Stdout, Write};
 
 // Slots and log entries that are lent to a run.
 pub(crate) const LENT: usize = 512;
@@ -14,20 +14,13 @@ pub(crate) const LENT: usize = 512;
 // Room for the report of a line that fires them all.
 const ROOM: usize = 63 * LENT + 23;
 
-// The part of the input that was read last, and how much of it was taken. The library's reader lends no part of its buffer.
-#[derive(Drop)]
-struct Piece {
-    bytes: [u8; 65536],
-    at: usize,
-    end: usize,
-    ghost within: { (at ≤ end) × (end ≤ 65536) },
-}
+// How much of the input is read at once.
+const PIECE: usize = 65536;
 
 // Lines of standard input, and a report to standard output. Its memory is the same for every input.
 #[derive(Drop)]
 pub(crate) struct Desk {
-    input: Stdin,
-    piece: Piece,
+    input: BufReader<Stdin>,
     // None once the input has ended
     splitter: Option<LineSplitter>,
     reply: Vec<u8>,
@@ -40,31 +33,10 @@ pub(crate) trait Hears {
         ensures { result.written ≤ length buffer.old };
 }
 
-// The next line that ends in the piece; what is left of it belongs to a line that goes on.
-fn next_in(piece: &mut Piece, splitter: &mut LineSplitter) -> Option<Line> {
-    let rest = &piece.bytes[piece.at..piece.end];
-    let taken = splitter.feed(rest);
-    piece.at += taken.used;
-    taken.line
-}
-
-// Reads a piece more; false at the end of the input: there is nothing else to answer.
-fn refill(piece: &mut Piece, input: &mut Stdin) -> io::Result<bool> {
-    let end = input.read(&mut piece.bytes)?;
-    piece.at = 0;
-    piece.end = end;
-    Ok(end > 0)
-}
-
 impl Desk {
     pub(crate) fn new(rt: HostRuntime) -> anyhow::Result<Desk> {
         Ok(Desk {
-            input: rt.stdin(),
-            piece: Piece {
-                bytes: [0; 65536],
-                at: 0,
-                end: 0,
-            },
+            input: BufReader::with_capacity(rt.alloc(), PIECE, rt.stdin())?,
             splitter: Some(LineSplitter::new()),
             reply: vec![in rt.alloc(); 0; ROOM]?,
             output: BufWriter::new(rt.alloc(), rt.stdout())?,
@@ -78,11 +50,14 @@ impl Desk {
             let Some(splitter) = &mut self.splitter else {
                 break;
             };
-            if let Some(line) = next_in(&mut self.piece, splitter) {
-                return Ok(Some(line));
-            }
-            if !refill(&mut self.piece, &mut self.input)? {
+            let piece = self.input.fill_buf()?;
+            if piece.is_empty() {
                 return Ok(self.splitter.take().and_then(|rest| rest.finish()));
+            }
+            let taken = splitter.feed(piece);
+            self.input.consume(taken.used);
+            if let Some(line) = taken.line {
+                return Ok(Some(line));
             }
         }
         Ok(None)

@@ -7,7 +7,7 @@ use super::WaitingRun;
 use crate::faults::RunFault;
 use crate::opening::{Opening, opening_of};
 use crate::reading::read_request;
-use crate::replies::{Replied, accept, ignore, refuse};
+use crate::replies::{Replied, answer, ignore};
 use crate::report::Report;
 
 impl WaitingRun {
@@ -32,13 +32,11 @@ impl WaitingRun {
             Err(fault) => return ignore(self.counts, fault),
         };
         let mut report = Report { buffer, at: 0 };
-        let (counts, replied) = match self.hear(line) {
-            Ok(opening) => {
-                self.accepted = Some(opening);
-                accept(next, &mut report, (0, 0))
-            }
-            Err(fault) => refuse(next, &mut report, fault),
-        };
+        let heard = self.hear(line);
+        if let Ok(opening) = heard {
+            self.accepted = Some(opening);
+        }
+        let (counts, replied) = answer(next, &mut report, heard.map(|_| (0, 0)));
         self.counts = counts;
         replied
     }
