@@ -1,6 +1,7 @@
 // Two binary heaps over lent slots, one by hard time and one by soft time.
 #![tactic(auto)]
 
+mod counts;
 mod laws;
 mod layout;
 pub mod pending;

@@ -46,22 +46,6 @@ impl<'a, T: Time> PendingTimers<'a, T> {
         self.count = 0;
     }
 
-    // How many timers are pending.
-    pub fn count(&self) -> u16
-        ensures value { result ≡ self.now.count }
-        ensures fits { result ≤ length self.now.slots.now }
-    {
-        self.count
-    }
-
-    // How many timers can be pending.
-    pub fn capacity(&self) -> u16
-        ensures value { result ≡ length self.now.slots.now }
-        ensures small { result ≤ 4096 }
-    {
-        self.slots.len() as u16
-    }
-
     // Adds a timer.
     pub fn insert(&mut self, timer: Timer<T>)
         requires { self.old.count < length self.old.slots.now }
