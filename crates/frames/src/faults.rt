@@ -32,6 +32,7 @@ pub enum WriteFault {
     ShortBuffer = 0x45,
 }
 
+// One body for each: a cast has to name the enum.
 impl LineFault {
     pub fn number(self) -> u8
         ensures { result ≡ line_number self }

@@ -7,6 +7,7 @@ use crate::keys::Key;
 use crate::slots::{Link, Slot};
 use times::Time;
 
+// An index is widened by `as`, which loses nothing: by `usize::from` each proof needs a fact more.
 pub fn slot_at<T: Time, K: Key<T>>(slots: &[Slot<T>], place: u16) -> u16
     requires { place < length slots.now }
     ensures { result ≡ slot_at K.Key.link slots.now place }

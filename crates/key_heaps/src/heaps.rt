@@ -1,4 +1,5 @@
-// One heap: a free slot goes in, a slot at any place comes out.
+// One heap: a free slot goes in, a slot at any place comes out. Each asks that the heap is linked: two heaps share the slots, and neither type
+// can be held while the other heap is written.
 ghost use Rattle.std.specs.Prelude.{◌+◌, ◌<◌, ◌≤◌, true, false, length};
 ghost use Rattle.heap_links.specs.Columns.{place_of};
 ghost use Rattle.heap_links.specs.Links.{Linked};

@@ -1,4 +1,5 @@
-// One line of a request file in words.
+// One line of a request file in words. `buffers` puts the same words in a lent buffer: a formatter promises what it wrote if it answers Ok, and
+// not that it does.
 ghost use Rattle.std.specs.Prelude.{Some};
 ghost use Rattle.request_words.specs.Words.{request_words, answer_words, line_words};
 

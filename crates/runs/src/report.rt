@@ -7,7 +7,8 @@ use frames::write::write_frame;
 use queue_rules::firing::Firing;
 use times::Plain;
 
-// A lent buffer, and the place behind the lines that stand in it.
+// A lent buffer, and the place behind the lines that stand in it. `request_words` has a sheet like it: the methods of each need a type of its
+// own crate.
 #[derive(Drop)]
 pub(crate) struct Report<'a> {
     pub(crate) buffer: &'a mut [u8],
@@ -26,6 +27,7 @@ impl Report<'_> {
         ensures { Extends (report_line payload.now) self.old self.new }
     {
         let end = self.at + 2 * payload.len() + 2;
+        // Not refused: there is room.
         let _ = write_frame(payload, &mut self.buffer[self.at..]);
         self.buffer[end] = 10;
         self.at = end + 1;

@@ -50,6 +50,7 @@ impl<T: Measured> AlarmDevice<T> for DownCounter<T> {
             }
             None => {
                 if let Some(ticks) = self.left {
+                    // Written anew: changed in place, the proof that the cast fits did not close.
                     let moved = t.place() - self.clock.place();
                     self.left = Some(ticks - moved as u16);
                 }

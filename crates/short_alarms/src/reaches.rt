@@ -14,6 +14,7 @@ pub(crate) fn ticks_within<T: Measured>(clock: T, t: T, reach: u16) -> Result<u1
         .place()
         .checked_sub(clock.place())
         .ok_or(AlarmFault::BeforeClock)?;
+    // As `ok().filter(..).ok_or(..)` it is no plainer, and its proof did not close.
     match u16::try_from(ticks) {
         Ok(ticks) if ticks <= reach => Ok(ticks),
         _ => Err(AlarmFault::BeyondReach),

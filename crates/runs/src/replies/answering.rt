@@ -8,6 +8,9 @@ use crate::counts::{Counts, NextLine};
 use crate::faults::RunFault;
 use crate::report::Report;
 
+// The three states call `ignore` and `answer` alike, each by itself: of what a closure changes of the queue, the alarm and the log that it
+// captures, a contract could say nothing.
+
 // Neither counts a line nor answers it in the buffer.
 pub(crate) fn ignore(counts: Counts, fault: RunFault) -> Replied
     ensures written { result.written ≡ 0 }
