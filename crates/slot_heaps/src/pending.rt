@@ -2,6 +2,7 @@
 ghost use Rattle.std.specs.Prelude.{◌≡◌, ◌+◌, ◌<◌, ◌≤◌, [], true, false, length, Some, slice_set};
 ghost use Rattle.std.specs.List.{slice_get};
 ghost use Rattle.heap_links.specs.Columns.{timers, slot_at, place_of};
+ghost use Rattle.heap_links.specs.Links.{Straight};
 ghost use Rattle.slot_heaps.specs.Pending.{by_hard, by_soft, listed, pending as pending_slots, Inserted, Standing};
 ghost use Rattle.key_heaps.specs.Sifts.{Heaped};
 
@@ -27,6 +28,8 @@ impl<'a, T: Time> PendingTimers<'a, T> {
     pub fn over(slots: &'a mut [Slot<T>]) -> Self
         requires { length slots.old ≤ 4096 }
         ensures count { result.count ≡ 0 }
+        ensures hard { Straight by_hard (length slots.old) result.slots.now }
+        ensures soft { Straight by_soft (length slots.old) result.slots.now }
         ensures timers { timers result.slots.now ≡ timers slots.old }
         ensures length { length result.slots.now ≡ length slots.old }
         ensures listed { listed result.count result.slots.now ≡ [] }
@@ -38,6 +41,8 @@ impl<'a, T: Time> PendingTimers<'a, T> {
     // Nothing is pending any more.
     pub fn clear(&mut self)
         ensures count { self.new.count ≡ 0 }
+        ensures hard { Straight by_hard (length self.old.slots.now) self.new.slots.now }
+        ensures soft { Straight by_soft (length self.old.slots.now) self.new.slots.now }
         ensures timers { timers self.new.slots.now ≡ timers self.old.slots.now }
         ensures length { length self.new.slots.now ≡ length self.old.slots.now }
         ensures listed { listed self.new.count self.new.slots.now ≡ [] }
