@@ -1,3 +1,4 @@
+use crate::lent::two_timers;
 use crate::reference::{Entry, rank};
 use crate::trial::Trial;
 use slot_heaps::slots::Slot;
@@ -24,4 +25,29 @@ fn firsts_are_least_at_day_ticks(rt: HostRuntime) -> Result<(), Fail> {
     let mut slots = [Slot::vacant(DayTick::last()); 100];
     Trial::over(&mut slots[..2]).play(&rt, 3)?;
     Trial::over(&mut slots).play(&rt, 4)
+}
+
+// The first number by hard time, the first by soft time, and the one that is taken out.
+#[test]
+fn slots_serve_without_the_type(rt: HostRuntime) {
+    let last = Tick::last();
+    let mut slots = [Slot::vacant(last); 3];
+    assert_eq!(rt;
+        two_timers(&mut slots, last, last),
+        Some((3, 3, 5)),
+        "at one time"
+    );
+    assert_eq!(rt;
+        two_timers(&mut slots[..1], last, last),
+        None,
+        "room for one"
+    );
+    let last = DayTick::last();
+    let early = DayTick::new(1, 0).unwrap_or(last);
+    let mut slots = [Slot::vacant(last); 2];
+    assert_eq!(rt;
+        two_timers(&mut slots, early, last),
+        Some((3, 5, 5)),
+        "one earlier"
+    );
 }

@@ -36,7 +36,7 @@ module _ {A : Type 0} where
   one_more P true s ss p ps = (p refl, ps)
   one_more P false s ss p ps = ps
 
-  listed_all : (P : Timer A → Type 0) (n : ℕ) (xs : List (Slot A)) → ((i : ℕ) (x : Timer A) → Holds n xs i x → P x) → AllByRecursion P (listed n xs)
+  pub listed_all : (P : Timer A → Type 0) (n : ℕ) (xs : List (Slot A)) → ((i : ℕ) (x : Timer A) → Holds n xs i x → P x) → AllByRecursion P (listed n xs)
   listed_all P n [] f = tt
   listed_all P n (s ∷ xs) f =
       one_more P (ltb s.hard.place n) s (filter (λ s. ltb s.hard.place n) xs)
@@ -58,7 +58,7 @@ module _ {A : Type 0} where
   }
 
   module _ (n number : ℕ) where
-    abbrev tested : Slot A → Bool
+    abbrev pub tested : Slot A → Bool
     tested s = ltb s.hard.place n && eqb s.timer.number number
 
     module _ (xs : List (Slot A)) (i : ℕ) (d : Slot A) (l : i < length xs) where
@@ -68,7 +68,7 @@ module _ {A : Type 0} where
       timer_read : slice_get (timers xs) i ≡ Some (get_or xs i d).timer
       timer_read = nth_column (λ s. s.timer) xs i d l
 
-      hit : tested (get_or xs i d) ≡ true → Found number n xs (Some i)
+      pub hit : tested (get_or xs i d) ≡ true → Found number n xs (Some i)
       hit t =
           let e = get_or xs i d in
           let p = and_parts (ltb e.hard.place n) (eqb e.timer.number number) t in
@@ -76,7 +76,7 @@ module _ {A : Type 0} where
           record { within = l; pending = omega (arith, place_read, ltb-true e.hard.place n p.0); timer = timer_read } in
           (e.timer, held, eqb-true e.timer.number number p.1, (_, listed_held n xs i e.timer held))
 
-      miss : tested (get_or xs i d) ≡ false → (x : Timer A) → Holds n xs i x → eqb x.number number ≡ false
+      pub miss : tested (get_or xs i d) ≡ false → (x : Timer A) → Holds n xs i x → eqb x.number number ≡ false
       miss t x h =
           let e = get_or xs i d in
           let same : x ≡ e.timer = let f = timer_read in let g = h.timer in cc in

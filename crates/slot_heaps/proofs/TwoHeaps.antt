@@ -73,7 +73,7 @@ module _ {A : Type 0} where
     pub marks_then : pending by_hard n zs ≡ set (pending by_hard m xs) s b
     marks_then = pending_same by_hard ys zs soft.kept.others n ∙ hard.marks
 
-    length_then : length zs ≡ length xs
+    pub length_then : length zs ≡ length xs
     length_then = kept_length by_hard ys zs soft.kept ∙ kept_length by_soft xs ys hard.kept
 
     pub timer_then : (d : Slot A) → s < length xs → slice_get (timers xs) s ≡ Some (get_or zs s d).timer

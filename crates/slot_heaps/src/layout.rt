@@ -8,7 +8,7 @@ ghost use Rattle.key_heaps.specs.Sifts.{BothHeaped};
 use heap_links::slots::{Link, Slot};
 use times::Time;
 
-pub(crate) fn lay_out<T: Time>(slots: &mut [Slot<T>])
+pub fn lay_out<T: Time>(slots: &mut [Slot<T>])
     requires { length slots.old ≤ 4096 }
     ensures hard { Straight by_hard (length slots.old) slots.new }
     ensures soft { Straight by_soft (length slots.old) slots.new }

@@ -3,10 +3,10 @@
 
 mod counts;
 mod laws;
-mod layout;
+pub mod layout;
 pub mod pending;
-mod roots;
-mod search;
+pub mod roots;
+pub mod search;
 mod steps;
 
 // What the slots are, for those who use the heaps.

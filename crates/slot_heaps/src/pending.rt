@@ -7,7 +7,7 @@ ghost use Rattle.slot_heaps.specs.Pending.{by_hard, by_soft, listed, pending as 
 ghost use Rattle.key_heaps.specs.Sifts.{Heaped};
 
 use crate::layout::lay_out;
-use crate::steps::{insert, remove};
+pub use crate::steps::{insert, remove};
 use heap_links::slots::Slot;
 use heap_links::timer::Timer;
 use times::Time;
@@ -27,6 +27,7 @@ impl<'a, T: Time> PendingTimers<'a, T> {
     // Nothing is pending in these slots.
     pub fn over(slots: &'a mut [Slot<T>]) -> Self
         requires { length slots.old ≤ 4096 }
+        ensures same_reference { result.slots.ghost_name ≡ slots.entry.ghost_name }
         ensures count { result.count ≡ 0 }
         ensures hard { Straight by_hard (length slots.old) result.slots.now }
         ensures soft { Straight by_soft (length slots.old) result.slots.now }
@@ -40,6 +41,7 @@ impl<'a, T: Time> PendingTimers<'a, T> {
 
     // Nothing is pending any more.
     pub fn clear(&mut self)
+        ensures same_reference { self.new.slots.ghost_name ≡ self.old.slots.ghost_name }
         ensures count { self.new.count ≡ 0 }
         ensures hard { Straight by_hard (length self.old.slots.now) self.new.slots.now }
         ensures soft { Straight by_soft (length self.old.slots.now) self.new.slots.now }
@@ -54,6 +56,7 @@ impl<'a, T: Time> PendingTimers<'a, T> {
     // Adds a timer.
     pub fn insert(&mut self, timer: Timer<T>)
         requires { self.old.count < length self.old.slots.now }
+        ensures same_reference { self.new.slots.ghost_name ≡ self.old.slots.ghost_name }
         ensures count { self.new.count ≡ self.old.count + 1 }
         ensures timers { timers self.new.slots.now ≡ slice_set (timers self.old.slots.now) (slot_at by_hard self.old.slots.now self.old.count) timer }
         ensures slots { pending_slots by_hard self.new.count self.new.slots.now ≡ slice_set (pending_slots by_hard self.old.count self.old.slots.now) (slot_at by_hard self.old.slots.now self.old.count) true }
@@ -68,6 +71,7 @@ impl<'a, T: Time> PendingTimers<'a, T> {
     pub fn remove(&mut self, slot: u16) -> Timer<T>
         requires within { slot < length self.old.slots.now }
         requires there { place_of by_hard self.old.slots.now slot < self.old.count }
+        ensures same_reference { self.new.slots.ghost_name ≡ self.old.slots.ghost_name }
         ensures count { self.new.count + 1 ≡ self.old.count }
         ensures timers { timers self.new.slots.now ≡ timers self.old.slots.now }
         ensures value { slice_get (timers self.old.slots.now) slot ≡ Some result }

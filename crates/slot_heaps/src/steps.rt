@@ -21,7 +21,7 @@ fn fill<T: Time>(slots: &mut [Slot<T>], slot: u16, timer: Timer<T>)
 }
 
 // Adds a timer to the `pending` ones, in the slot that is free first by hard time.
-pub(crate) fn insert<T: Time>(slots: &mut [Slot<T>], pending: u16, timer: Timer<T>)
+pub fn insert<T: Time>(slots: &mut [Slot<T>], pending: u16, timer: Timer<T>)
     requires standing { Standing pending slots.old }
     requires room { pending < length slots.old }
     ensures standing { Standing (pending + 1) slots.new }
@@ -37,7 +37,7 @@ pub(crate) fn insert<T: Time>(slots: &mut [Slot<T>], pending: u16, timer: Timer<
 }
 
 // Takes the timer out of a pending slot, which leaves `left` pending ones.
-pub(crate) fn remove<T: Time>(slots: &mut [Slot<T>], slot: u16, left: u16) -> Timer<T>
+pub fn remove<T: Time>(slots: &mut [Slot<T>], slot: u16, left: u16) -> Timer<T>
     requires standing { Standing (left + 1) slots.old }
     requires within { slot < length slots.old }
     requires there { place_of by_hard slots.old slot ≤ left }
