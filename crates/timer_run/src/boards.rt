@@ -1,5 +1,5 @@
 // An open run on a board: a queue over lent slots, and the alarm device that was asked for.
-use crate::desk::{Desk, Hears, LENT};
+use crate::desk::{Desk, Hears};
 use alarm_chains::ChainedAlarm;
 use alarms::{Alarm, AlarmDevice, Comparator};
 use queue_rules::firing::Firing;
@@ -13,6 +13,12 @@ use short_alarms::{DownCounter, LowBitMatcher};
 use slot_heaps::slots::Slot;
 use std::alloc::Global;
 use timer_queue::queue::TimerQueue;
+
+// Slots and log entries that are lent to a run.
+const LENT: usize = 512;
+
+// Room for the report of a line that fires them all.
+const ROOM: usize = 63 * LENT + 23;
 
 impl Hears for WaitingRun {
     fn hear(&mut self, line: &[u8], buffer: &mut [u8]) -> Replied {
@@ -51,13 +57,16 @@ impl<'a, T: NamedTime, A: Alarm<T>> Hears for Board<'a, T, A> {
 fn play<T: NamedTime, A: Alarm<T> + Drop>(
     mut board: Board<'_, T, A>,
     desk: &mut Desk,
+    reply: &mut [u8],
 ) -> anyhow::Result<()> {
-    desk.answer_until(&mut board, |board: &Board<'_, T, A>| board.run.is_closing())?;
+    desk.answer_until(&mut board, reply, |board: &Board<'_, T, A>| {
+        board.run.is_closing()
+    })?;
     let Ok(mut closed) = board.run.close(&board.queue) else {
         return Ok(());
     };
-    desk.answer_until(&mut closed, |_: &ClosedRun| false)?;
-    desk.put_totals(&closed)?;
+    desk.answer_until(&mut closed, reply, |_: &ClosedRun| false)?;
+    desk.put_totals(&closed, reply)?;
     Ok(())
 }
 
@@ -79,6 +88,7 @@ fn run_on<T: NamedTime, A: Alarm<T> + Drop>(
         hard: filler,
     };
     let log = vec![in heap; blank; LENT]?;
+    let mut reply = vec![in heap; 0; ROOM]?;
     let mut queue = TimerQueue::over(&mut slots);
     let Ok(run) = waiting.open(&mut queue, &mut alarm) else {
         return Ok(());
@@ -91,6 +101,7 @@ fn run_on<T: NamedTime, A: Alarm<T> + Drop>(
             log,
         },
         desk,
+        &mut reply,
     )
 }
 

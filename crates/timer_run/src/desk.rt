@@ -6,24 +6,42 @@ use lines::splitter::LineSplitter;
 use runs::closed::ClosedRun;
 use runs::replies::Replied;
 use std::io;
-use std::io::{BufRead, BufReader, BufWriter, Stdin, Stdout, Write};
+use std::io::{BufWriter, Read, Stdin, Stdout, Write};
 
-// Slots and log entries that are lent to a run.
-pub(crate) const LENT: usize = 512;
+// The part of the input that was read last, and how much of it was taken. With the library's `BufReader` a heap would have to have room for it
+// before the first line is answered.
+#[derive(Drop)]
+struct Piece {
+    bytes: [u8; 65536],
+    at: usize,
+    end: usize,
+    ghost within: { (at ≤ end) × (end ≤ 65536) },
+}
 
-// Room for the report of a line that fires them all.
-const ROOM: usize = 63 * LENT + 23;
+impl Piece {
+    // The next line that ends in the piece; what is left of it belongs to a line that goes on.
+    fn next_line(&mut self, splitter: &mut LineSplitter) -> Option<Line> {
+        let taken = splitter.feed(&self.bytes[self.at..self.end]);
+        self.at += taken.used;
+        taken.line
+    }
 
-// How much of the input is read at once.
-const PIECE: usize = 65536;
+    // Reads a piece more; false at the end of the input.
+    fn refill(&mut self, input: &mut Stdin) -> io::Result<bool> {
+        let end = input.read(&mut self.bytes)?;
+        self.at = 0;
+        self.end = end;
+        Ok(end > 0)
+    }
+}
 
 // Lines of standard input, and a report to standard output. Its memory is the same for every input.
 #[derive(Drop)]
 pub(crate) struct Desk {
-    input: BufReader<Stdin>,
+    input: Stdin,
+    piece: Piece,
     // None once the input has ended
     splitter: Option<LineSplitter>,
-    reply: Vec<u8>,
     output: BufWriter<Stdout>,
 }
 
@@ -34,11 +52,15 @@ pub(crate) trait Hears {
 }
 
 impl Desk {
-    pub(crate) fn new(rt: HostRuntime) -> anyhow::Result<Desk> {
+    pub(crate) fn new(rt: HostRuntime) -> io::Result<Desk> {
         Ok(Desk {
-            input: BufReader::with_capacity(rt.alloc(), PIECE, rt.stdin())?,
+            input: rt.stdin(),
+            piece: Piece {
+                bytes: [0; 65536],
+                at: 0,
+                end: 0,
+            },
             splitter: Some(LineSplitter::new()),
-            reply: vec![in rt.alloc(); 0; ROOM]?,
             output: BufWriter::new(rt.alloc(), rt.stdout())?,
         })
     }
@@ -50,27 +72,24 @@ impl Desk {
             let Some(splitter) = &mut self.splitter else {
                 break;
             };
-            let piece = self.input.fill_buf()?;
-            if piece.is_empty() {
-                return Ok(self.splitter.take().and_then(|rest| rest.finish()));
-            }
-            let taken = splitter.feed(piece);
-            self.input.consume(taken.used);
-            if let Some(line) = taken.line {
+            if let Some(line) = self.piece.next_line(splitter) {
                 return Ok(Some(line));
+            }
+            if !self.piece.refill(&mut self.input)? {
+                return Ok(self.splitter.take().and_then(|rest| rest.finish()));
             }
         }
         Ok(None)
     }
 
     // Hands the next line to the run, and its reply on; false at the end of the input.
-    fn answer<H: Hears>(&mut self, run: &mut H) -> anyhow::Result<bool> {
+    fn answer<H: Hears>(&mut self, run: &mut H, reply: &mut [u8]) -> io::Result<bool> {
         let Some(line) = self.next_line()? else {
             return Ok(false);
         };
-        let replied = run.hear(line.as_slice(), &mut self.reply);
+        let replied = run.hear(line.as_slice(), reply);
         let written = replied.written;
-        self.output.write_all(&self.reply[0..written])?;
+        self.output.write_all(&reply[0..written])?;
         Ok(true)
     }
 
@@ -78,13 +97,14 @@ impl Desk {
     pub(crate) fn answer_until<H: Hears, F: Fn(&H) -> bool>(
         &mut self,
         run: &mut H,
+        reply: &mut [u8],
         done: F,
-    ) -> anyhow::Result<()>
+    ) -> io::Result<()>
         requires { (state : F) (x : _) → F.pre state x }
     {
         // A count, since a loop has to be seen to end, and an input need not.
         for _ in 0..u64::MAX {
-            if !self.answer(run)? || done(run) {
+            if !self.answer(run, reply)? || done(run) {
                 break;
             }
         }
@@ -92,9 +112,9 @@ impl Desk {
     }
 
     // Writes the totals that a closed run gives.
-    pub(crate) fn put_totals(&mut self, run: &ClosedRun) -> io::Result<()> {
-        if let Ok(written) = run.totals(&mut self.reply) {
-            self.output.write_all(&self.reply[0..written])?;
+    pub(crate) fn put_totals(&mut self, run: &ClosedRun, reply: &mut [u8]) -> io::Result<()> {
+        if let Ok(written) = run.totals(reply) {
+            self.output.write_all(&reply[0..written])?;
         }
         Ok(())
     }

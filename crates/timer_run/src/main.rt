@@ -15,7 +15,12 @@ fn main(rt: HostRuntime) -> anyhow::Result<()> {
     let heap = rt.alloc();
     let mut desk = Desk::new(rt)?;
     let mut run = WaitingRun::new();
-    desk.answer_until(&mut run, |run: &WaitingRun| run.accepted().is_some())?;
+    let mut reply = [0; 23];
+    desk.answer_until(
+        &mut run,
+        &mut reply,
+        |run: &WaitingRun| run.accepted().is_some(),
+    )?;
     if let Some(opening) = run.accepted() {
         match opening.kind {
             TimeKind::Ticks => run_at::<Tick>(run, opening, &mut desk, heap)?,
