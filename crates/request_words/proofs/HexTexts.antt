@@ -1,13 +1,16 @@
--- What the formatter writes of a byte in two digits is the byte in hexadecimal.
-use Rattle.std.proofs.Common.{◌≡◌, ℕ, ◌^◌, ◌-◌, ◌<◌, true, false, [], ◌∷◌, Some, ap, ◌∙◌}
-use Rattle.std.specs.Fmt.{digits, digits_output, format_spec, padded_integral, styled_digits_output}
-use Rattle.std.specs.Option.{option_map}
-use Rattle.std.proofs.lemmas.Fmt.{hex_byte}
+-- A time field in hexadecimal is the eight bytes in hexadecimal that it is read from.
+use Rattle.std.proofs.Common.{◌≡◌, ℕ, ◌<◌, List, length, get_or, sym, refl, ap, ◌∙◌, arith}
+use Rattle.std.proofs.lemmas.List.{take_all}
+use Rattle.std.proofs.lemmas.Nat.{be_bytes_8}
+use Rattle.std.specs.Int.{w64, from_be_bytes, to_be_bytes}
 use Rattle.frames.specs.Hex.{hex}
+use Rattle.frames.specs.Reading.{big_endian}
+use Rattle.frames.proofs.Fields.{listed, listed_take}
+use Rattle.frames.proofs.WriteBack.{hex_eight}
 
-pub byte_text : (r : _) (s : _) (b : ℕ) → b < 256 → digits_output r ≡ Some (digits 16 true b) → s ≡ format_spec 32 0 4 2 (2 ^ 64 - 1) →
-    styled_digits_output r s ≡ Some (hex (b ∷ []))
-byte_text r s b h d e =
-    ap (styled_digits_output r) e
-    ∙ ap (option_map (padded_integral (format_spec 32 0 4 2 (2 ^ 64 - 1)) false [])) d
-    ∙ ap Some (hex_byte true b h)
+pub hex_time_field : (bs : List ℕ) (time : ℕ) → length bs ≡ 8 → ((i : ℕ) → get_or bs i 0 < 256) → time ≡ from_be_bytes w64 (listed bs 0 8) →
+    hex (big_endian 8 time) ≡ hex bs
+hex_time_field bs time l h e =
+    let whole : listed bs 0 8 ≡ bs = listed_take bs 8 (omega (arith, l)) ∙ take_all 8 bs (omega (arith, l)) in
+    let back : to_be_bytes w64 time ≡ bs = be_bytes_8 bs time l h (e ∙ ap (from_be_bytes w64) whole) in
+    sym (hex_eight time (to_be_bytes w64 time) refl) ∙ ap hex back
