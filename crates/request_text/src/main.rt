@@ -120,7 +120,7 @@ impl Desk {
     }
 
     // The rest of the input, if it is a line, and the summary.
-    fn finish(mut self) -> io::Result<()> {
+    fn finish(&mut self) -> io::Result<()> {
         if let Some(line) = self.splitter.finish() {
             self.take_line(line.as_slice())?;
         }
