@@ -8,7 +8,7 @@ pub(crate) const KEPT: usize = 129;
 // A buffer and its length, since a `Line` is `Copy` and the kit's `ArrayVec` is not.
 #[derive(Clone, Copy)]
 pub struct Line {
-    pub(crate) bytes: [u8; KEPT],
+    pub(crate) bytes: [u8; 129],
     pub(crate) len: usize,
     ghost within: { len ≤ 129 },
 }
@@ -21,7 +21,7 @@ impl Line {
         ensures { kept result ≡ [] }
     {
         Line {
-            bytes: [0; KEPT],
+            bytes: [0; 129],
             len: 0,
         }
     }
@@ -36,7 +36,7 @@ impl Line {
     pub(crate) fn keep(&mut self, bytes: &[u8])
         ensures { kept self.new ≡ keeping (kept self.old ++ bytes.now) }
     {
-        let count = bytes.len().min(KEPT - self.len);
+        let count = bytes.len().min(KEPT.saturating_sub(self.len));
         let end = self.len + count;
         self.bytes[self.len..end].copy_from_slice(&bytes[..count]);
         self.len = end;
