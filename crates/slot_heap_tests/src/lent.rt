@@ -1,5 +1,6 @@
 // The heaps as a caller uses them who holds slots and a count, and not the type of the pending timers.
-ghost use Rattle.std.specs.Prelude.{◌≤◌, length};
+ghost use Rattle.std.specs.Prelude.{◌<◌, ◌≤◌, length};
+ghost use Rattle.slot_heaps.specs.Pending.{Standing};
 
 use slot_heaps::layout::lay_out;
 use slot_heaps::pending::{insert, remove};
@@ -9,8 +10,25 @@ use slot_heaps::slots::Slot;
 use slot_heaps::timer::Timer;
 use times::Time;
 
-// The numbers of the first timers by hard and by soft time, and of one that is searched and taken out; any slots can be searched, also these
-// before anything is laid out.
+// A timer goes in and out again, over slots of which nothing is known but their links: the order of times is no premise. Answers the first
+// numbers by hard and by soft time while it was in, and the number that was taken out.
+fn in_and_out<T: Time>(
+    slots: &mut [Slot<T>],
+    count: u16,
+    timer: Timer<T>,
+) -> Option<(u32, u32, u32)>
+    requires standing { Standing count slots.old }
+    requires room { count < length slots.old }
+{
+    insert(slots, count, timer);
+    let (_, by_hard) = first_by_hard(slots, count + 1)?;
+    let (_, by_soft) = first_by_soft(slots, count + 1)?;
+    let slot = find(slots, count + 1, timer.number)?;
+    let taken = remove(slots, slot, count);
+    Some((by_hard.number, by_soft.number, taken.number))
+}
+
+// Two timers over these slots, which are searched before anything is laid out.
 pub(crate) fn two_timers<T: Time>(
     slots: &mut [Slot<T>],
     early: T,
@@ -34,7 +52,7 @@ pub(crate) fn two_timers<T: Time>(
     if slots.len() < 2 {
         return None;
     }
-    insert(
+    in_and_out(
         slots,
         1,
         Timer {
@@ -42,10 +60,5 @@ pub(crate) fn two_timers<T: Time>(
             soft: late,
             hard: late,
         },
-    );
-    let (_, by_hard) = first_by_hard(slots, 2)?;
-    let (_, by_soft) = first_by_soft(slots, 2)?;
-    let slot = find(slots, 2, 5)?;
-    let taken = remove(slots, slot, 1);
-    Some((by_hard.number, by_soft.number, taken.number))
+    )
 }

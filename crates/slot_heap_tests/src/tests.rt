@@ -34,7 +34,7 @@ fn slots_serve_without_the_type(rt: HostRuntime) {
     let mut slots = [Slot::vacant(last); 3];
     assert_eq!(rt;
         two_timers(&mut slots, last, last),
-        Some((3, 3, 5)),
+        Some((3, 3, 3)),
         "at one time"
     );
     assert_eq!(rt;
@@ -47,7 +47,7 @@ fn slots_serve_without_the_type(rt: HostRuntime) {
     let mut slots = [Slot::vacant(last); 2];
     assert_eq!(rt;
         two_timers(&mut slots, early, last),
-        Some((3, 5, 5)),
+        Some((3, 5, 3)),
         "one earlier"
     );
 }

@@ -12,7 +12,7 @@ fn index_of<T: Time>(slots: &[Slot<T>], pending: u16, number: u32) -> Option<usi
     slots.iter().position(|slot| slot.hard.place < pending && slot.timer.number == number)
 }
 
-// The slot in which a timer of that number is pending. Nothing is asked of the links: any slots can be searched.
+// The slot in which a timer of that number is pending. Nothing is asked of the links.
 pub fn find<T: Time>(slots: &[Slot<T>], pending: u16, number: u32) -> Option<u16>
     requires { length slots.now ≤ 4096 }
     ensures { Found number pending slots.now result }
