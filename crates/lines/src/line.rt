@@ -36,6 +36,7 @@ impl Line {
     pub(crate) fn keep(&mut self, bytes: &[u8])
         ensures { kept self.new ≡ keeping (kept self.old ++ bytes.now) }
     {
+        // Saturating, so that another `KEPT` is refused by what is promised and not by the difference.
         let count = bytes.len().min(KEPT.saturating_sub(self.len));
         let end = self.len + count;
         self.bytes[self.len..end].copy_from_slice(&bytes[..count]);

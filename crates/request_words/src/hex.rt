@@ -40,7 +40,7 @@ fn put_text<W: fmt::Write>(characters: &[u8], f: &mut fmt::Formatter<W>) -> fmt:
     }
 }
 
-// A field goes out as one text, a time field too; other bytes go out one by one.
+// One byte goes out as one text, and so do the eight of a time field; other bytes go out one by one.
 impl<const N: usize> fmt::Display for Hex<N> {
     ghost output = { λ x. Some (hex x.0) };
 
